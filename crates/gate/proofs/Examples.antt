@@ -1,0 +1,72 @@
+-- Worked values of the definitions, by computation: codes, products of named gates, and the skip of an entry that equals zero.
+-- Assumes nothing.
+use mathlib.Core.Path.{_≡_, refl}
+use mathlib.Core.List.{List, [], _∷_}
+use mathlib.Core.Bool.{Bool, true, false}
+use lib.IntN.{pos}
+use lib.Ieee.{Float, nan, inf, fin, binary64, add, sub, mul, neg, eq, ofBits}
+use Rattle.gate.specs.Complex.{cx, f0, f1, c0, c1, isZeroOf, _*ℂ_}
+use Rattle.gate.specs.Matrix.{mat2, row4, mat4, id2, dot2Of, mul2Of, dag2Of, kronRowOf, kronOf, axpyOf, rowMulOf, mul4Of, conjColumnOf, dag4Of, mat4SwapQubitsOf, timeStepOf, timeProductFrom, timeProductOf}
+use Rattle.gate.specs.Table.{f-1, c-1, ci, c-i, gateX, gateY, gateZ, gateS, gateSdg, gateSx, gateCnot, gateCz, gateSwap, gateISwap, gateISwapdg, matrix1qOf, matrix2qOf}
+
+-- ---- codes
+
+code-Y : matrix1qOf 3 ≡ gateY
+unfolding matrix1qOf
+code-Y = refl
+
+code-ISwap : matrix2qOf 0x13 ≡ gateISwap
+unfolding matrix2qOf
+code-ISwap = refl
+
+-- ---- two by two
+
+x-x : mul2Of gateX gateX ≡ id2
+unfolding mul2Of dot2Of add sub mul ofBits
+x-x = refl
+
+s-s : mul2Of gateS gateS ≡ gateZ
+unfolding mul2Of dot2Of add sub mul ofBits
+s-s = refl
+
+-- X after S: the later gate stands on the left
+s-then-x : timeProductOf (gateS ∷ gateX ∷ []) ≡ mat2 c0 ci c1 c0
+unfolding timeProductOf timeProductFrom timeStepOf mul2Of dot2Of add sub mul ofBits
+s-then-x = refl
+
+-- ---- four by four
+
+-- the first factor acts on the high index bit
+x-on-first : kronOf gateX id2 ≡ mat4 (row4 c0 c0 c1 c0) (row4 c0 c0 c0 c1) (row4 c1 c0 c0 c0) (row4 c0 c1 c0 c0)
+unfolding kronOf kronRowOf add sub mul ofBits
+x-on-first = refl
+
+-- Swap and then Cz, with S on both, is ISwap
+iswap-parts : mul4Of (kronOf gateS gateS) (mul4Of gateCz gateSwap) ≡ gateISwap
+unfolding kronOf kronRowOf mul4Of rowMulOf axpyOf isZeroOf add sub mul eq ofBits
+iswap-parts = refl
+
+-- control and target exchanged
+cnot-turned : mat4SwapQubitsOf gateCnot ≡ mat4 (row4 c1 c0 c0 c0) (row4 c0 c0 c0 c1) (row4 c0 c0 c1 c0) (row4 c0 c1 c0 c0)
+unfolding mat4SwapQubitsOf
+cnot-turned = refl
+
+-- ---- the skip
+
+∞ : Float
+∞ = inf false
+
+-- an entry 0 or -0 of the left factor passes over infinities of the right one
+skipped : rowMulOf (row4 c0 c1 (cx (fin true 0 (pos 0)) f0) c0) (mat4 (row4 (cx ∞ ∞) c0 c0 c0) (row4 c1 c0 c0 c1) (row4 c0 (cx ∞ f0) c0 c0) (row4 c0 c0 (cx f0 ∞) c0)) ≡ row4 c1 c0 c0 c1
+unfolding rowMulOf axpyOf isZeroOf ∞ add sub mul eq ofBits
+skipped = refl
+
+-- without the skip that is a NaN
+unskipped : c0 *ℂ cx ∞ f0 ≡ cx nan nan
+unfolding ∞ add sub mul ofBits
+unskipped = refl
+
+-- and 1 is not neutral beside an infinity
+one-times : c1 *ℂ cx ∞ f0 ≡ cx ∞ nan
+unfolding ∞ add sub mul ofBits
+one-times = refl

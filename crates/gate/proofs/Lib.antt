@@ -1,0 +1,3 @@
+pub mod Products
+pub mod Laws
+pub mod Examples

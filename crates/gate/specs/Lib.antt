@@ -1,0 +1,3 @@
+pub mod Complex
+pub mod Matrix
+pub mod Table

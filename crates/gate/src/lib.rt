@@ -1,0 +1,22 @@
+// Complex numbers, 2 by 2 and 4 by 4 matrices by value, their products, and the constant table of
+// the named gates: gate.rs of the original, and the small matrix products of its detect.rs.
+
+mod complex; // a complex number is a struct of two floats, as num-complex has it
+mod matrix; // matrices as structs of rows, and their products
+mod table; // the exact matrices of the named gates, by code
+
+pub use complex::Complex;
+pub use matrix::Mat2;
+pub use matrix::Mat4;
+pub use matrix::Row2;
+pub use matrix::Row4;
+pub use matrix::dag2;
+pub use matrix::dag4;
+pub use matrix::identity2;
+pub use matrix::kron;
+pub use matrix::mat4_swap_qubits;
+pub use matrix::mul2;
+pub use matrix::mul4;
+pub use matrix::time_step;
+pub use table::matrix_1q;
+pub use table::matrix_2q;
