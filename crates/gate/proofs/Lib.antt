@@ -1,3 +1,3 @@
+pub mod Stored
 pub mod Products
-pub mod Laws
 pub mod Examples

@@ -3,9 +3,17 @@
 
 mod complex; // a complex number is a struct of two floats, as num-complex has it
 mod matrix; // matrices as structs of rows, and their products
+mod given; // matrices in bytes, as a tape gives them
+mod lent; // matrices in a lent slice of floats
 mod table; // the exact matrices of the named gates, by code
 
 pub use complex::Complex;
+pub use given::given2;
+pub use given::given4;
+pub use lent::load2;
+pub use lent::load4;
+pub use lent::store2;
+pub use lent::store4;
 pub use matrix::Mat2;
 pub use matrix::Mat4;
 pub use matrix::Row2;

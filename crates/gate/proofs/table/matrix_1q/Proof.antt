@@ -3,7 +3,7 @@
 use borrow.Author.Needs.{needs}
 use Rattle.gate.specs.Table.{matrix1qOf, oneQubit}
 use Rattle.gate.specs.Matrix.{id2}
-use Rattle.gate.proofs.Laws.{getD-any}
+use Rattle.laws.proofs.Slices.{getD-any}
 use Rattle.gate.proofs.table.matrix_1q.Statement.{statement}
 use Rattle.gate.proofs.table.matrix_1q.Tie as tie
 

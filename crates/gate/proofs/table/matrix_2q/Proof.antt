@@ -4,7 +4,7 @@ use Prim.Native.Nat.{_-_}
 use native.Mathlib.Omega.{arith}
 use borrow.Author.Needs.{needs}
 use Rattle.gate.specs.Table.{matrix2qOf, twoQubit, gateCnot}
-use Rattle.gate.proofs.Laws.{getD-any}
+use Rattle.laws.proofs.Slices.{getD-any}
 use Rattle.gate.proofs.table.matrix_2q.Statement.{statement}
 use Rattle.gate.proofs.table.matrix_2q.Tie as tie
 

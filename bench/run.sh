@@ -1,0 +1,10 @@
+#!/bin/sh
+# Compares port and original bit for bit, then prints the table of times.
+#   bench/run.sh ORIGINAL_DIR
+set -eu
+ROOT=$(cd "$(dirname "$0")/.." && pwd)
+. "$ROOT/tests/oracle/env.sh"
+original_at "${1-}"
+build_bench
+"$BENCH" compare 100000 100000
+"$BENCH" time

@@ -1,0 +1,156 @@
+//! Original and port on the same random operands, bit for bit; all NaNs count as one.
+
+use crate::inputs::{any, matrix, root, KINDS};
+use crate::original_side::{self as rust, mat2, mat4, Flat2, Flat4};
+use crate::port::*;
+use oracle::bits::{same, texts};
+use oracle::rng::Rng;
+use oracle::tape::entries;
+use original::access::detect::access as detect;
+
+/// One comparison: its name, and what is told of it.
+struct Tally {
+    name: &'static str,
+    compared: usize,
+    differ: usize,
+}
+
+impl Tally {
+    fn new(name: &'static str) -> Tally {
+        Tally { name, compared: 0, differ: 0 }
+    }
+
+    /// Counts one call; the first that differs is printed.
+    fn add(&mut self, operands: &[&[f64]], want: &[f64], got: &[f64]) {
+        self.compared += 1;
+        if want.len() == got.len() && want.iter().zip(got).all(|(&w, &g)| same(w, g)) {
+            return;
+        }
+        if self.differ == 0 {
+            println!("{}:{}", self.name, texts(&operands.concat()));
+            println!("  original{}\n  port    {}", texts(want), texts(got));
+        }
+        self.differ += 1;
+    }
+
+    /// Prints the count; whether nothing differed.
+    fn end(self) -> bool {
+        println!("{:<12} {} compared, {} differ", self.name, self.compared, self.differ);
+        self.differ == 0
+    }
+}
+
+/// Compares every function, `count` roots and as many of each of the others as `others` says.
+pub fn compare(seed: u64, count: usize, others: usize) -> bool {
+    let rng = &mut Rng::new(seed);
+    let ends = [
+        roots(rng, count),
+        scalars(rng, others),
+        of_two("mul2", rng, others, leaf_mul2, |a, b| entries(&detect::mul2(mat2(a), mat2(b)))),
+        of_two("kron", rng, others, leaf_kron, |a, b| entries(&detect::kron(mat2(a), mat2(b)))),
+        of_two("mul4", rng, others, leaf_mul4, |a, b| entries(&detect::mul4(mat4(a), mat4(b)))),
+        of_one("dag2", rng, others, leaf_dag2, |a: &Flat2| entries(&detect::dag2(mat2(a)))),
+        of_one("dag4", rng, others, leaf_dag4, |a: &Flat4| entries(&detect::dag4(mat4(a)))),
+        of_one("swap_qubits", rng, others, leaf_swap_qubits, |a: &Flat4| {
+            entries(&detect::swap_qubits(mat4(a)))
+        }),
+        lengths(),
+    ];
+    ends.iter().all(|&well| well)
+}
+
+fn roots(rng: &mut Rng, count: usize) -> bool {
+    let mut tally = Tally::new("sqrt");
+    for _ in 0..count {
+        let x = root(rng);
+        tally.add(&[&[x]], &[rust::sqrt(x)], &[leaf_sqrt(x)]);
+    }
+    tally.end()
+}
+
+fn scalars(rng: &mut Rng, count: usize) -> bool {
+    let names = ["abs", "max", "min", "clamp", "from_bits", "to_bits"];
+    let mut tallies = names.map(Tally::new);
+    let [abs, max, min, clamp, from_bits, to_bits] = &mut tallies;
+    for _ in 0..count {
+        let (x, y) = (any(rng), any(rng));
+        abs.add(&[&[x]], &[x.abs()], &[leaf_abs(x)]);
+        max.add(&[&[x, y]], &[rust::max(x, y)], &[leaf_max(x, y)]);
+        min.add(&[&[x, y]], &[rust::min(x, y)], &[leaf_min(x, y)]);
+        from_bits.add(&[&[x]], &[x], &[leaf_from_bits(x.to_bits())]);
+        to_bits.add(&[&[x]], &[x], &[f64::from_bits(leaf_to_bits(x))]);
+        let (lo, hi) = (any(rng), any(rng));
+        if lo <= hi {
+            clamp.add(&[&[x, lo, hi]], &[x.clamp(lo, hi)], &[leaf_clamp(x, lo, hi)]);
+        }
+    }
+    tallies.into_iter().map(Tally::end).fold(true, |all, well| all & well)
+}
+
+fn of_two<const N: usize>(
+    name: &'static str,
+    rng: &mut Rng,
+    count: usize,
+    port: Of2,
+    original: impl Fn(&[f64; N], &[f64; N]) -> Vec<f64>,
+) -> bool {
+    let mut tally = Tally::new(name);
+    for _ in 0..count {
+        let (kind_a, kind_b) = (rng.pick(&KINDS), rng.pick(&KINDS));
+        let (a, b) = (matrix(rng, kind_a), matrix(rng, kind_b));
+        let want = original(&a, &b);
+        let mut got = vec![0.0; want.len()];
+        call2(port, &a, &b, &mut got);
+        tally.add(&[&a, &b], &want, &got);
+    }
+    tally.end()
+}
+
+fn of_one<const N: usize>(
+    name: &'static str,
+    rng: &mut Rng,
+    count: usize,
+    port: Of1,
+    original: impl Fn(&[f64; N]) -> Vec<f64>,
+) -> bool {
+    let mut tally = Tally::new(name);
+    for _ in 0..count {
+        let kind = rng.pick(&KINDS);
+        let a = matrix(rng, kind);
+        let want = original(&a);
+        let mut got = vec![0.0; want.len()];
+        call1(port, &a, &mut got);
+        tally.add(&[&a], &want, &got);
+    }
+    tally.end()
+}
+
+/// Nothing is written to a slice that is too short, and nothing beyond the
+/// result to one that is longer. The slice is part of a longer one, so that a
+/// wrong call shows and does no harm.
+fn lengths() -> bool {
+    let mut tally = Tally::new("lengths");
+    let operand = [1.0; 32];
+    let of_two: [(Of2, usize, usize); 3] =
+        [(leaf_mul2, 8, 8), (leaf_kron, 8, 32), (leaf_mul4, 32, 32)];
+    for (f, len, result) in of_two {
+        let a = &operand[..len];
+        kept(&mut tally, result, |out| call2(f, a, a, out));
+    }
+    let of_one: [(Of1, usize); 3] = [(leaf_dag2, 8), (leaf_dag4, 32), (leaf_swap_qubits, 32)];
+    for (f, len) in of_one {
+        kept(&mut tally, len, |out| call1(f, &operand[..len], out));
+    }
+    tally.end()
+}
+
+/// Calls with every length up to a few places too many; the other places must keep their values.
+fn kept(tally: &mut Tally, result: usize, call: impl Fn(&mut [f64])) {
+    const OLD: [f64; 64] = [7.0; 64];
+    for length in 0..result + 4 {
+        let mut buffer = OLD;
+        call(&mut buffer[..length]);
+        let written = if length < result { 0 } else { result };
+        tally.add(&[], &OLD[written..], &buffer[written..]);
+    }
+}

@@ -1,0 +1,86 @@
+//! What is timed: each piece makes the same calls on both sides, on the same buffers.
+
+use crate::clock::medians;
+use crate::inputs::{matrix, Kind};
+use crate::original_side::{self as rust, mat2, mat4, Flat2, Flat4};
+use crate::port::*;
+use oracle::rng::Rng;
+use oracle::tape::{entries, NAMED2};
+use original::access::detect::access as detect;
+use std::hint::black_box;
+
+/// Calls of one pass.
+const CALLS: usize = 256;
+
+/// Times every piece and prints the table.
+pub fn table(seed: u64) {
+    let rng = &mut Rng::new(seed);
+    println!("{:<22} {:>12} {:>12} {:>8}", "piece", "original ns", "port ns", "ratio");
+    let xs: Vec<f64> = (0..CALLS).map(|_| 4.0 * rng.unit()).collect();
+    row("sqrt", &mut || each(&xs, rust::sqrt), &mut || each(&xs, |x| leaf_sqrt(x)));
+    row("sqrt in a chain", &mut || chain(&xs, rust::sqrt), &mut || chain(&xs, |x| leaf_sqrt(x)));
+    let mul2 = |a: &Flat2, b: &Flat2| detect::mul2(mat2(a), mat2(b));
+    let kron = |a: &Flat2, b: &Flat2| detect::kron(mat2(a), mat2(b));
+    let mul4 = |a: &Flat4, b: &Flat4| detect::mul4(mat4(a), mat4(b));
+    let small = pairs(rng, |rng| matrix(rng, Kind::Dense));
+    products("mul2 dense", &small, mul2, leaf_mul2);
+    products("kron dense", &small, kron, leaf_kron);
+    products("mul4 dense", &pairs(rng, |rng| matrix(rng, Kind::Dense)), mul4, leaf_mul4);
+    products("mul4 half zeros", &pairs(rng, |rng| matrix(rng, Kind::HalfZeros)), mul4, leaf_mul4);
+    products("mul4 named gates", &pairs(rng, named), mul4, leaf_mul4);
+}
+
+/// Times both sides of a piece and prints a line.
+fn row(name: &str, original: &mut dyn FnMut(), port: &mut dyn FnMut()) {
+    let [a, b] = medians(original, port).map(|pass| pass / CALLS as f64);
+    println!("{name:<22} {a:>12.1} {b:>12.1} {:>8.2}", b / a);
+}
+
+/// Calls that do not depend on each other.
+fn each(xs: &[f64], f: impl Fn(f64) -> f64) {
+    for &x in xs {
+        black_box(f(x));
+    }
+}
+
+/// Calls of which each takes the result of the one before.
+fn chain(xs: &[f64], f: impl Fn(f64) -> f64) {
+    black_box(xs.iter().fold(0.0, |last, &x| f(last + x)));
+}
+
+/// Products of the pairs of matrices. Each side has one buffer for its results.
+fn products<const N: usize, R>(
+    name: &str,
+    pairs: &[([f64; N], [f64; N])],
+    original: impl Fn(&[f64; N], &[f64; N]) -> R,
+    port: Of2,
+) {
+    let mut original_pass = || {
+        for (a, b) in pairs {
+            let out = original(a, b);
+            black_box(&out);
+        }
+    };
+    let mut out = [0.0; 32];
+    let mut port_pass = || {
+        for (a, b) in pairs {
+            call2(port, a, b, &mut out);
+            black_box(&out);
+        }
+    };
+    row(name, &mut original_pass, &mut port_pass);
+}
+
+fn pairs<const N: usize>(
+    rng: &mut Rng,
+    one: impl Fn(&mut Rng) -> [f64; N],
+) -> Vec<([f64; N], [f64; N])> {
+    (0..CALLS).map(|_| (one(rng), one(rng))).collect()
+}
+
+/// The matrix of a named two-qubit gate.
+fn named(rng: &mut Rng) -> Flat4 {
+    let (_, gate) = rng.pick(&NAMED2);
+    let m = gate.matrix_2q().expect("a two-qubit gate");
+    entries(&m).try_into().expect("32 entries")
+}

@@ -1,0 +1,21 @@
+-- The laws: on lists and slices, on tables, on floats, and on matrices in a slice. Assumes nothing.
+pub mod Cases
+pub mod Views
+pub mod Slices
+pub mod Stores
+pub mod Tables
+pub mod Zeros
+pub mod Negatives
+pub mod Integers
+pub mod Dyadic
+pub mod DyadicOrder
+pub mod Fit
+pub mod DyadicFloat
+pub mod Matrix
+pub mod Loops
+pub mod Maps
+pub mod Exchange
+pub mod Negation
+pub mod Sweep
+pub mod Eliminations
+pub mod Examples

@@ -1,0 +1,189 @@
+-- Laws of a local map on a matrix, over its width: what `dot`, `rows` and `cols` read; a turn of the loop that puts the rows under the map, by stores
+-- in a column; a turn of the loop that puts the columns under it, by a part of a row that is lent. Assumes nothing.
+use mathlib.Core.Path.{_≡_, refl, ap, _∙_}
+use mathlib.Core.Logic.{_⊎_, inl, inr, _≢_}
+use mathlib.Core.Bool.{true, false, cond}
+use mathlib.Core.List.{List}
+use Prim.Native.Nat.{ℕ, zero, suc, _+_, _*_, _-_, _≤_, _<_}
+use native.Mathlib.Nat.{mul-le-mul-right, suc-mul, le-refl, le-trans, add-assoc, add-sub-cancel-left}
+use native.Mathlib.Omega.{arith}
+use lib.ListN.{length, getD, take, drop}
+use lib.Ieee.{Float, nan}
+use borrow.Author.Tests.{lt-ltb, le-ltb, le-leb, lt-leb}
+use Rattle.laws.specs.Slices.{onPart}
+use Rattle.laws.specs.Matrix.{Mat, at, Is}
+use Rattle.laws.specs.Maps.{Local, inside, dot, under, rows, cols, columnTurn, rotated, rowTurn}
+use Rattle.laws.specs.Loops.{upTo, byRow, byCol}
+use Rattle.laws.proofs.Cases.{lt-or-le}
+use Rattle.laws.proofs.Views.{length-listOf, getD-listOf}
+use Rattle.laws.proofs.Slices.{part-at, length-put, put-before, put-inside, put-after}
+use Rattle.laws.proofs.Stores.{length-stores, stores-other, stores-own}
+use Rattle.laws.proofs.Matrix.{place-in, part-in, row-of, col-of, Within}
+use Rattle.laws.proofs.Loops.{up-left, more}
+
+-- ---- which indices are the map's
+
+module _ (o : Local) (i : ℕ) where
+  pub inside-yes : o .start ≤ i → i < o .start + o .width → inside o i ≡ true
+  inside-yes h g = rw (le-leb (o .start) i h, lt-ltb i (o .start + o .width) g)
+
+  pub inside-below : i < o .start → inside o i ≡ false
+  inside-below h = rw (lt-leb (o .start) i h)
+
+  pub inside-above : o .start + o .width ≤ i → inside o i ≡ false
+  inside-above h = rw (le-leb (o .start) i (omega arith), le-ltb i (o .start + o .width) h)
+
+-- ---- an entry in the map's rows or columns, and one outside them
+
+module _ (o : Local) (m : Mat) where
+  pub rows-in : (i c : ℕ) → i < o .width → rows o m (o .start + i) c ≡ under (o .width) (o .map) (λ j. m (o .start + j) c) i
+  rows-in i c h = rw (inside-yes o (o .start + i) (omega arith) (omega arith), add-sub-cancel-left (o .start) i)
+
+  pub rows-out : (r c : ℕ) → inside o r ≡ false → rows o m r c ≡ m r c
+  rows-out r c h = rw h
+
+  pub cols-in : (r i : ℕ) → i < o .width → cols o m r (o .start + i) ≡ under (o .width) (o .map) (λ j. m r (o .start + j)) i
+  cols-in r i h = rw (inside-yes o (o .start + i) (omega arith) (omega arith), add-sub-cancel-left (o .start) i)
+
+  pub cols-out : (r c : ℕ) → inside o c ≡ false → cols o m r c ≡ m r c
+  cols-out r c h = rw h
+
+-- ---- only entries within the matrix are read
+
+pub dot-cong : (q v w : ℕ → Float) (k : ℕ) → ((j : ℕ) → j < k → v j ≡ w j) → dot q v k ≡ dot q w k
+unfolding dot
+dot-cong q v w zero e = refl
+dot-cong q v w (suc k) e = rw (dot-cong q v w k (λ j h. e j (omega arith)), e k (omega arith))
+
+module _ (o : Local) (dim : ℕ) (band : o .start + o .width ≤ dim) where
+  pub rows-within : Within dim (rows o)
+  rows-within f g e r c h b =
+      λ t. cond (inside o r) (dot-cong (o .map (r - o .start)) _ _ (o .width) (λ j l. e (o .start + j) c (omega arith) b) t) (e r c h b t)
+
+  pub cols-within : Within dim (cols o)
+  cols-within f g e r c h b =
+      λ t. cond (inside o c) (dot-cong (o .map (c - o .start)) _ _ (o .width) (λ j l. e r (o .start + j) h (omega arith)) t) (e r c h b t)
+
+-- ---- the rows step: the first n columns are done
+
+abbrev pub RowsTo : Local → ℕ → List Float → ℕ → List Float → Type 0
+RowsTo o dim m₀ n m = Is dim m₀ (upTo byCol n (rows o (at dim m₀)) (at dim m₀)) m
+
+pub rows-more : (o : Local) (dim c : ℕ) (m₀ m m′ : List Float) → c < dim → o .start + o .width ≤ dim → dim * dim ≤ length m₀
+    → RowsTo o dim m₀ c m → m′ ≡ columnTurn o dim c m → RowsTo o dim m₀ (c + 1) m′
+rows-more o dim c m₀ m m′ g band room w e =
+    rw e
+    (more byCol _ _ dim c m₀ m (columnTurn o dim c m) w (length-stores p v m k) after other
+    (λ r c′ h g′ e′. rw e′ (own r h (lt-or-le r s) (lt-or-le r (s + k)))))
+  where
+    s : ℕ
+    s = o .start
+
+    k : ℕ
+    k = o .width
+
+    p : ℕ → ℕ
+    p i = (s + i) * dim + c
+
+    v : ℕ → Float
+    v = under k (o .map) (λ j. at dim m (s + j) c)
+
+    after : (i : ℕ) → dim * dim ≤ i → getD (columnTurn o dim c m) i nan ≡ getD m i nan
+    after i b = stores-other p v m k i nan (λ j l e. omega (arith, e, place-in dim (s + j) c (omega arith) g))
+
+    other : (r c′ : ℕ) → r < dim → c′ < dim → c′ ≢ c → at dim (columnTurn o dim c m) r c′ ≡ at dim m r c′
+    other r c′ h g′ ne = stores-other p v m k (r * dim + c′) nan (λ j l e. ne (col-of dim r c′ (s + j) c g′ g e))
+
+    old : (r : ℕ) → r < dim → at dim m r c ≡ at dim m₀ r c
+    old r h = w .each r c h g ∙ up-left byCol _ _ c r c (le-refl c)
+
+    away : (r : ℕ) → r < dim → ((j : ℕ) → j < k → r ≢ s + j) → at dim (columnTurn o dim c m) r c ≡ at dim m₀ r c
+    away r h ne = stores-other p v m k (r * dim + c) nan (λ j l e. ne j l (row-of dim r c (s + j) c g g e)) ∙ old r h
+
+    own : (r : ℕ) → r < dim → (r < s) ⊎ (s ≤ r) → (r < s + k) ⊎ (s + k ≤ r) → at dim (columnTurn o dim c m) r c ≡ rows o (at dim m₀) r c
+    own r h (inl l) _ = rw (inside-below o r l) (away r h (λ j b e. omega arith))
+    own r h (inr l) (inr l′) = rw (inside-above o r l′) (away r h (λ j b e. omega arith))
+    own r h (inr l) (inl l′) =
+        let e : r ≡ s + (r - s) = omega arith in
+        let b : p (r - s) < length m = rw (w .long) (le-trans (place-in dim (s + (r - s)) c (omega arith) g) room) in
+        rw (inside-yes o r l l′)
+        (ap (λ n. getD (columnTurn o dim c m) (n * dim + c) nan) e
+        ∙ stores-own p v m k (r - s) nan (omega arith) b (λ j _ e. omega (arith, row-of dim (s + (r - s)) c (s + j) c g g e))
+        ∙ dot-cong (o .map (r - s)) _ _ k (λ j b. old (s + j) (omega arith)))
+
+-- ---- the columns step: the first n rows are done
+
+abbrev pub ColsTo : Local → ℕ → List Float → ℕ → List Float → Type 0
+ColsTo o dim m₀ n m = Is dim m₀ (upTo byRow n (cols o (at dim m₀)) (at dim m₀)) m
+
+module _ (o : Local) (dim r : ℕ) (m₀ m : List Float) (h : r < dim) (band : o .start + o .width ≤ dim) (room : dim * dim ≤ length m) where
+  a : ℕ
+  a = r * dim + o .start
+
+  mid : List Float
+  mid = take (o .width) (drop a m)
+
+  part : List Float
+  part = rotated (o .width) (o .map) mid
+
+  fit : a + o .width ≤ length m
+  unfolding a
+  fit = omega (arith, part-in dim r (o .start) (o .width) h band)
+
+  len : length part ≡ o .width
+  unfolding part rotated
+  len = length-listOf (o .width) _
+
+  turn-long : length (rowTurn o dim r m) ≡ length m
+  unfolding onPart a mid part
+  turn-long = length-put a (o .width) m part nan fit len
+
+  turn-after : (i : ℕ) → dim * dim ≤ i → getD (rowTurn o dim r m) i nan ≡ getD m i nan
+  unfolding onPart a mid part
+  turn-after i g = put-after a (o .width) m part nan fit len i (omega (arith, part-in dim r (o .start) (o .width) h band))
+
+  turn-other : (r′ c : ℕ) → r′ < dim → c < dim → r′ ≢ r → at dim (rowTurn o dim r m) r′ c ≡ at dim m r′ c
+  unfolding onPart a mid part
+  turn-other r′ c h′ g ne = by (lt-or-le r′ r) (lt-or-le r r′)
+    where
+      by : (r′ < r) ⊎ (r ≤ r′) → (r < r′) ⊎ (r′ ≤ r) → at dim (rowTurn o dim r m) r′ c ≡ at dim m r′ c
+      by (inl l) _ = put-before a (o .width) m part nan fit len (r′ * dim + c) (omega (arith, suc-mul r′ dim, mul-le-mul-right {m = suc r′} dim l))
+      by (inr _) (inl l) = put-after a (o .width) m part nan fit len (r′ * dim + c) (omega (arith, suc-mul r dim, mul-le-mul-right {m = suc r} dim l))
+      by (inr l) (inr l′) = absurd (ne (omega arith))
+
+  turn-own : ((c : ℕ) → c < dim → at dim m r c ≡ at dim m₀ r c) → (c : ℕ) → c < dim → at dim (rowTurn o dim r m) r c ≡ cols o (at dim m₀) r c
+  unfolding onPart a mid part rotated
+  turn-own old c g = by (lt-or-le c s) (lt-or-le c (s + k))
+    where
+      s : ℕ
+      s = o .start
+
+      k : ℕ
+      k = o .width
+
+      by : (c < s) ⊎ (s ≤ c) → (c < s + k) ⊎ (s + k ≤ c) → at dim (rowTurn o dim r m) r c ≡ cols o (at dim m₀) r c
+      by (inl l) _ = rw (inside-below o c l) (put-before a k m part nan fit len (r * dim + c) (omega arith) ∙ old c g)
+      by (inr l) (inr l′) = rw (inside-above o c l′) (put-after a k m part nan fit len (r * dim + c) (omega arith) ∙ old c g)
+      by (inr l) (inl l′) =
+          rw (inside-yes o c l l′)
+          (ap (λ n. getD (rowTurn o dim r m) n nan) e
+          ∙ put-inside a k m part nan fit len (c - s) (omega arith)
+          ∙ getD-listOf k _ (c - s) nan (omega arith)
+          ∙ dot-cong (o .map (c - s)) _ _ k from)
+        where
+          e : r * dim + c ≡ a + (c - s)
+          e = omega arith
+
+          from : (j : ℕ) → j < k → getD mid j nan ≡ at dim m₀ r (s + j)
+          from j b = part-at a k m nan j b ∙ ap (λ n. getD m n nan) (add-assoc (r * dim) s j) ∙ old (s + j) (omega arith)
+
+pub cols-more : (o : Local) (dim r : ℕ) (m₀ m m′ : List Float) → r < dim → o .start + o .width ≤ dim → dim * dim ≤ length m₀
+    → ColsTo o dim m₀ r m → m′ ≡ rowTurn o dim r m → ColsTo o dim m₀ (r + 1) m′
+cols-more o dim r m₀ m m′ h band room w e =
+    let room′ : dim * dim ≤ length m = rw (w .long) room in
+    rw e
+    (more byRow _ _ dim r m₀ m _ w
+    (turn-long o dim r m₀ m h band room′)
+    (turn-after o dim r m₀ m h band room′)
+    (turn-other o dim r m₀ m h band room′)
+    (λ r′ c h′ g e′. rw e′ (turn-own o dim r m₀ m h band room′ (λ c g. w .each r c h g ∙ up-left byRow _ _ r r c (le-refl r)) c g)))

@@ -1,0 +1,10 @@
+-- The definitions that the laws speak of, and that contracts of other crates cite. Assumes nothing.
+pub mod Views
+pub mod Slices
+pub mod Tables
+pub mod Zeros
+pub mod Dyadic
+pub mod Matrix
+pub mod Maps
+pub mod Steps
+pub mod Loops

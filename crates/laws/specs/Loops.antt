@@ -1,0 +1,22 @@
+-- How far a loop over the entries of a matrix has come. Each entry has its turn, which a key gives: by row, by column, or both at once.
+-- A loop's invariant is that the entries whose turn has been are new, and the others old. Assumes nothing.
+use mathlib.Core.Bool.{cond}
+use Prim.Native.Nat.{ℕ}
+use lib.Dec.{eqb, ltb}
+use Rattle.laws.specs.Matrix.{Mat}
+
+-- new where the key is below n, old elsewhere
+unfoldable pub upTo : (ℕ → ℕ → ℕ) → ℕ → Mat → Mat → Mat
+upTo key n new old r c = cond (ltb (key r c) n) (new r c) (old r c)
+
+-- turn n makes row n
+abbrev pub byRow : ℕ → ℕ → ℕ
+byRow r c = r
+
+-- turn n makes column n
+abbrev pub byCol : ℕ → ℕ → ℕ
+byCol r c = c
+
+-- turn n makes the entries (i, n) and (n, i)
+abbrev pub byCross : ℕ → ℕ → ℕ → ℕ
+byCross i r c = cond (eqb r i) c r

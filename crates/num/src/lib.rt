@@ -1,0 +1,20 @@
+// f64 as IEEE 754 and Rust's methods have it, each function equal to a definition: the square root,
+// what goes by sign and order, and numbers as bits and bytes. Only a read of bytes asks anything of
+// its caller: that the bytes are there.
+
+pub mod bits; // bits.rt: f64 from and to its bits, little-endian numbers in bytes
+pub mod order; // order.rt: abs, max, min, clamp
+pub mod root; // root.rt: the square root
+
+pub use bits::f64_at;
+pub use bits::from_bits;
+pub use bits::is_nan;
+pub use bits::to_bits;
+pub use bits::u16_at;
+pub use bits::u32_at;
+pub use bits::u64_at;
+pub use order::abs;
+pub use order::clamp;
+pub use order::max;
+pub use order::min;
+pub use root::sqrt;

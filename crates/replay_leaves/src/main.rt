@@ -1,0 +1,302 @@
+// Replays the stored results of the leaves and prints how many agree, bit for bit, with what the
+// proved functions compute. A list is a file of words of eight bytes, the lowest first; a record is
+// a tag, operands and the wanted result; the tag 0 ends the list. Floats are stored by their bits,
+// every NaN by one pattern. docs/TESTING.md says how the lists were made.
+ghost use Prim.Native.Nat.{_+_, _≤_};
+ghost use lib.ListN.{length};
+use gate::Complex;
+use gate::Mat2;
+use gate::Mat4;
+use gate::Row4;
+use libc::STDOUT_FILENO;
+
+// Tags of records.
+const SQRT: u64 = 1;
+
+const ABS: u64 = 2;
+
+const MAX: u64 = 3;
+
+const MIN: u64 = 4;
+
+const CLAMP: u64 = 5;
+
+const TABLE_1Q: u64 = 6;
+
+const TABLE_2Q: u64 = 7;
+
+const MUL2: u64 = 8;
+
+const DAG2: u64 = 9;
+
+const KRON: u64 = 10;
+
+const MUL4: u64 = 11;
+
+const DAG4: u64 = 12;
+
+const SWAP_QUBITS: u64 = 13;
+
+// How many words follow a tag; 0 for the end of the list and for a tag that is none.
+fn words(tag: u64) -> usize
+    ensures { λ r. ⌜ r ≤ 96 ⌝ }
+{
+    match tag {
+        1 | 2 => 2,
+        3 | 4 => 3,
+        5 => 4,
+        6 => 9,
+        7 => 33,
+        8 => 24,
+        9 => 16,
+        10 => 48,
+        11 => 96,
+        12 | 13 => 64,
+        _ => 0,
+    }
+}
+
+fn is(x: f64, s: &[u8], at: usize) -> bool
+    requires { ⌜ at + 8 ≤ length (now s) ⌝ }
+{
+    num::to_bits(x) == num::u64_at(s, at)
+}
+
+fn is_complex(c: Complex, s: &[u8], at: usize) -> bool
+    requires { ⌜ at + 16 ≤ length (now s) ⌝ }
+{
+    is(c.re, s, at) && is(c.im, s, at + 8)
+}
+
+fn is_row(r: Row4, s: &[u8], at: usize) -> bool
+    requires { ⌜ at + 64 ≤ length (now s) ⌝ }
+{
+    if is_complex(r.c0, s, at) && is_complex(r.c1, s, at + 16) {
+        is_complex(r.c2, s, at + 32) && is_complex(r.c3, s, at + 48)
+    } else {
+        false
+    }
+}
+
+fn is_mat2(m: Mat2, s: &[u8], at: usize) -> bool
+    requires { ⌜ at + 64 ≤ length (now s) ⌝ }
+{
+    if is_complex(m.r0.c0, s, at) && is_complex(m.r0.c1, s, at + 16) {
+        is_complex(m.r1.c0, s, at + 32) && is_complex(m.r1.c1, s, at + 48)
+    } else {
+        false
+    }
+}
+
+fn is_mat4(m: Mat4, s: &[u8], at: usize) -> bool
+    requires { ⌜ at + 256 ≤ length (now s) ⌝ }
+{
+    if is_row(m.r0, s, at) && is_row(m.r1, s, at + 64) {
+        is_row(m.r2, s, at + 128) && is_row(m.r3, s, at + 192)
+    } else {
+        false
+    }
+}
+
+// A record of numbers: up to three operands, then the result.
+fn numbers_agree(tag: u64, s: &[u8]) -> bool {
+    if s.len() < 16 {
+        return false;
+    }
+    let x = num::f64_at(s, 0);
+    if tag == SQRT {
+        return is(num::sqrt(x), s, 8);
+    }
+    if tag == ABS {
+        return is(num::abs(x), s, 8);
+    }
+    if s.len() < 24 {
+        return false;
+    }
+    let y = num::f64_at(s, 8);
+    if tag == MAX {
+        return is(num::max(x, y), s, 16);
+    }
+    if tag == MIN {
+        return is(num::min(x, y), s, 16);
+    }
+    if s.len() < 32 {
+        return false;
+    }
+    is(num::clamp(x, y, num::f64_at(s, 16)), s, 24)
+}
+
+// A record of a code and its matrix.
+fn table_agrees(tag: u64, s: &[u8]) -> bool {
+    if s.len() < 72 {
+        return false;
+    }
+    let code = num::u64_at(s, 0) as usize;
+    if tag == TABLE_1Q {
+        if 9 <= code {
+            return false;
+        }
+        return is_mat2(gate::matrix_1q(code), s, 8);
+    }
+    if s.len() < 264 {
+        return false;
+    }
+    if code < 16 {
+        return false;
+    }
+    if 21 <= code {
+        return false;
+    }
+    is_mat4(gate::matrix_2q(code), s, 8)
+}
+
+// A record of one or two 2 by 2 matrices and a result.
+fn small_agrees(tag: u64, s: &[u8]) -> bool {
+    if s.len() < 128 {
+        return false;
+    }
+    let a = gate::given2(s, 0);
+    if tag == DAG2 {
+        return is_mat2(gate::dag2(a), s, 64);
+    }
+    let b = gate::given2(s, 64);
+    if s.len() < 192 {
+        return false;
+    }
+    if tag == MUL2 {
+        return is_mat2(gate::mul2(a, b), s, 128);
+    }
+    if s.len() < 384 {
+        return false;
+    }
+    is_mat4(gate::kron(a, b), s, 128)
+}
+
+// A record of one or two 4 by 4 matrices and a result.
+fn large_agrees(tag: u64, s: &[u8]) -> bool {
+    if s.len() < 512 {
+        return false;
+    }
+    let a = gate::given4(s, 0);
+    if tag == DAG4 {
+        return is_mat4(gate::dag4(a), s, 256);
+    }
+    if tag == SWAP_QUBITS {
+        return is_mat4(gate::mat4_swap_qubits(a), s, 256);
+    }
+    if s.len() < 768 {
+        return false;
+    }
+    is_mat4(gate::mul4(a, gate::given4(s, 256)), s, 512)
+}
+
+fn agrees(tag: u64, s: &[u8]) -> bool {
+    if tag <= CLAMP {
+        return numbers_agree(tag, s);
+    }
+    if tag <= TABLE_2Q {
+        return table_agrees(tag, s);
+    }
+    if tag <= KRON {
+        return small_agrees(tag, s);
+    }
+    large_agrees(tag, s)
+}
+
+fn one(x: bool) -> u64
+    ensures { λ r. ⌜ r ≤ 1 ⌝ }
+{
+    if x { 1 } else { 0 }
+}
+
+// How many records of a tag there are, and how many agree; and whether the list has its end.
+pub struct Tally {
+    right: u64,
+    all: u64,
+    whole: bool,
+}
+
+fn count(s: &[u8], wanted: u64) -> Tally {
+    let mut right: u64 = 0;
+    let mut all: u64 = 0;
+    let mut at: usize = 0;
+    while 8 <= s.len() - at {
+        let tag = num::u64_at(s, at);
+        let size = 8 * words(tag);
+        at += 8;
+        if size == 0 {
+            let whole = tag == 0 && at == s.len();
+            return Tally { right, all, whole };
+        }
+        if s.len() - at < size {
+            return Tally {
+                right,
+                all,
+                whole: false,
+            };
+        }
+        let here = tag == wanted;
+        all += one(here);
+        right += one(here && agrees(tag, &s[at..at + size]));
+        at += size;
+    }
+    Tally {
+        right,
+        all,
+        whole: false,
+    }
+}
+
+// A line for a tag that the list has.
+fn print_line(s: &[u8], tag: u64, name: &[u8]) {
+    let t = count(s, tag);
+    if t.all == 0 {
+        return;
+    }
+    io::write_all(STDOUT_FILENO, name);
+    io::print_decimal(STDOUT_FILENO, t.right);
+    io::write_all(STDOUT_FILENO, b" of ");
+    io::print_decimal(STDOUT_FILENO, t.all);
+    io::write_all(STDOUT_FILENO, b"\n");
+}
+
+fn print_numbers(s: &[u8]) {
+    print_line(s, SQRT, b"sqrt ");
+    print_line(s, ABS, b"abs ");
+    print_line(s, MAX, b"max ");
+    print_line(s, MIN, b"min ");
+    print_line(s, CLAMP, b"clamp ");
+}
+
+fn print_matrices(s: &[u8]) {
+    print_line(s, TABLE_1Q, b"matrix_1q ");
+    print_line(s, TABLE_2Q, b"matrix_2q ");
+    print_line(s, MUL2, b"mul2 ");
+    print_line(s, DAG2, b"dag2 ");
+    print_line(s, KRON, b"kron ");
+    print_line(s, MUL4, b"mul4 ");
+    print_line(s, DAG4, b"dag4 ");
+    print_line(s, SWAP_QUBITS, b"mat4_swap_qubits ");
+}
+
+fn replay(path: &[u8]) {
+    let fd = os::open_read(path);
+    if fd < 0 {
+        os::fail(path);
+        return;
+    }
+    let mut space = io::large_buffer();
+    let n = io::read_full(fd, &mut space);
+    libc::close(fd);
+    let s = &space[..n];
+    print_numbers(s);
+    print_matrices(s);
+    if count(s, 0).whole {
+        io::write_all(STDOUT_FILENO, b"end\n");
+    }
+}
+
+fn main() {
+    replay(b"leaves.bin");
+    replay(b"products.bin");
+}

@@ -1,0 +1,20 @@
+#!/bin/sh
+# Builds the oracle and checks it: the two module trees agree, the original
+# agrees with a state vector on the edge cases and on COUNT random lists of each
+# family (4000 if it is not given), and the stored lists are what it gives.
+#   tests/oracle/check.sh ORIGINAL_DIR [COUNT]
+set -eu
+ROOT=$(cd "$(dirname "$0")/../.." && pwd)
+. "$ROOT/tests/oracle/env.sh"
+original_at "${1-}"
+build tests/oracle
+"$ORACLE" selftest 1 1000
+echo edges
+"$ORACLE" vector "$ROOT/tests/oracle/lists/edges.txt"
+for family in $("$ORACLE" families); do
+    echo "$family"
+    "$ORACLE" random 1 "${2:-4000}" "$family" | "$ORACLE" vector -
+done
+"$ORACLE" leaves | cmp - "$ROOT/crates/replay_leaves/data/leaves.bin"
+"$ORACLE" leaves products | cmp - "$ROOT/crates/replay_leaves/data/products.bin"
+echo "the stored lists are what the original gives"

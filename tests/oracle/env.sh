@@ -1,0 +1,42 @@
+# Sourced by the scripts, which set ROOT, the folder of the repository: what must
+# be there, and cargo without a network. The only crate that is not in the
+# repository is num-complex, from the Debian package librust-num-complex-dev.
+
+REGISTRY=${ORACLE_REGISTRY:-/usr/share/cargo/registry}
+CARGO_TARGET_DIR=$ROOT/target/oracle
+ORACLE=$CARGO_TARGET_DIR/release/oracle
+BENCH=$CARGO_TARGET_DIR/release/bench
+export CARGO_TARGET_DIR
+
+fail() {
+    echo "$*" >&2
+    exit 2
+}
+
+# Takes the folder of the original engine, the one that holds src/gate.rs.
+original_at() {
+    [ -n "$1" ] || fail "usage: $0 ORIGINAL_DIR (the folder that holds src/gate.rs)"
+    [ -f "$1/src/gate.rs" ] || fail "$1/src/gate.rs is missing: name the folder of the original engine"
+    QSIM_SRC=$(cd "$1" && pwd)
+    export QSIM_SRC
+}
+
+# Builds the package in a folder of the repository.
+build() {
+    command -v cargo >/dev/null || fail "cargo is needed (Rust 1.86 or later)"
+    ls -d "$REGISTRY"/num-complex-0.4* >/dev/null 2>&1 ||
+        fail "num-complex is not in $REGISTRY: apt-get install librust-num-complex-dev"
+    cargo build --release --offline --manifest-path "$ROOT/$1/Cargo.toml" \
+        --config 'source.crates-io.replace-with="system"' \
+        --config "source.system.directory=\"$REGISTRY\""
+}
+
+# Builds the bench, and before it the port's archive if there is none.
+build_bench() {
+    LEAVES_ARCHIVE=${LEAVES_ARCHIVE:-$ROOT/target/staticlib/libleaves.a}
+    export LEAVES_ARCHIVE
+    if [ ! -f "$LEAVES_ARCHIVE" ]; then
+        (cd "$ROOT" && rt staticlib leaves)
+    fi
+    build bench
+}

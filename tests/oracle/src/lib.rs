@@ -1,0 +1,17 @@
+//! The driver of the oracle: gate lists in, the original's answers out.
+//! docs/TESTING.md has the formats.
+
+pub mod answer;
+pub mod bits;
+pub mod check;
+pub mod families;
+pub mod gate_text;
+pub mod leaves;
+pub mod list;
+pub mod query;
+pub mod rng;
+pub mod run;
+pub mod selftest;
+pub mod state_text;
+pub mod tape;
+pub mod vector;

@@ -1,0 +1,119 @@
+//! The program `oracle`; docs/TESTING.md lists its commands.
+
+use oracle::families::FAMILIES;
+use oracle::list::{parse_many, List, SEPARATOR};
+use oracle::rng::Rng;
+use oracle::{check, families, leaves, run, selftest, tape};
+use std::io::{self, BufWriter, Read, Write};
+use std::process::ExitCode;
+
+const USAGE: &str = "\
+oracle run FILE                  the original's answers to the gate lists of FILE (- is standard input)
+oracle tape FILE OUT             the tape of FILE's gate list to OUT (several lists: OUT.0, OUT.1, ..)
+oracle random SEED COUNT FAMILY  random gate lists to standard output
+oracle families                  the names of the families
+oracle vector FILE               the answers beside those of a state vector
+oracle selftest SEED COUNT       the two module trees beside each other, COUNT lists a family
+oracle leaves [products]         the stored list of leaf results, or its second part, in binary";
+
+fn main() -> ExitCode {
+    let args: Vec<String> = std::env::args().skip(1).collect();
+    let words: Vec<&str> = args.iter().map(String::as_str).collect();
+    match command(&words) {
+        Ok(true) => ExitCode::SUCCESS,
+        Ok(false) => ExitCode::FAILURE,
+        Err(message) => {
+            eprintln!("{message}");
+            ExitCode::from(2)
+        }
+    }
+}
+
+/// Does what the words say; whether all was well.
+fn command(words: &[&str]) -> Result<bool, String> {
+    match words {
+        ["run", file] => run_all(file).map(|()| true),
+        ["tape", file, out] => write_tapes(file, out).map(|()| true),
+        ["random", seed, count, family] => {
+            random(number(seed)?, number(count)?, family).map(|()| true)
+        }
+        ["families"] => Ok(FAMILIES.iter().all(|row| writeln!(io::stdout(), "{}", row.0).is_ok())),
+        ["vector", file] => vector(file),
+        ["selftest", seed, count] => selftest(number(seed)?, number(count)?),
+        ["leaves"] => write_out(&leaves::leaves()).map(|()| true),
+        ["leaves", "products"] => write_out(&leaves::more_products()).map(|()| true),
+        _ => Err(USAGE.to_string()),
+    }
+}
+
+fn run_all(file: &str) -> Result<(), String> {
+    let mut out = BufWriter::new(io::stdout().lock());
+    for (k, list) in read_lists(file)?.iter().enumerate() {
+        separate(k, &mut out)?;
+        run::print(list, &mut out).map_err(|e| e.to_string())?;
+    }
+    out.flush().map_err(|e| e.to_string())
+}
+
+fn write_tapes(file: &str, out: &str) -> Result<(), String> {
+    let lists = read_lists(file)?;
+    for (k, list) in lists.iter().enumerate() {
+        let name = if lists.len() == 1 { out.to_string() } else { format!("{out}.{k}") };
+        std::fs::write(&name, tape::tape(list)?).map_err(|e| format!("{name}: {e}"))?;
+    }
+    Ok(())
+}
+
+fn random(seed: u64, count: usize, family: &str) -> Result<(), String> {
+    let family = families::find(family)?;
+    let mut rng = Rng::new(seed);
+    let mut out = BufWriter::new(io::stdout().lock());
+    for k in 0..count {
+        separate(k, &mut out)?;
+        write!(out, "{}", family(&mut rng.split())).map_err(|e| e.to_string())?;
+    }
+    out.flush().map_err(|e| e.to_string())
+}
+
+fn vector(file: &str) -> Result<bool, String> {
+    let mut counts = check::Counts::default();
+    for list in &read_lists(file)? {
+        counts.check(list);
+    }
+    print!("{counts}");
+    Ok(counts.wrong == 0)
+}
+
+fn selftest(seed: u64, count: usize) -> Result<bool, String> {
+    let out = selftest::selftest(seed, count);
+    println!("module trees: {} compared, {} differ", out.compared, out.trees_differ);
+    println!("list texts: {} read back, {} differ", out.compared, out.texts_differ);
+    let tape = selftest::tape_is_right();
+    println!("known tape: {}", if tape { "right" } else { "wrong" });
+    Ok(out.trees_differ + out.texts_differ == 0 && tape)
+}
+
+fn read_lists(file: &str) -> Result<Vec<List>, String> {
+    let mut text = String::new();
+    let read = match file {
+        "-" => io::stdin().read_to_string(&mut text).map(|_| ()),
+        _ => std::fs::read_to_string(file).map(|t| text = t),
+    };
+    read.map_err(|e| format!("{file}: {e}"))?;
+    parse_many(&text).map_err(|e| format!("{file}, {e}"))
+}
+
+fn separate(k: usize, out: &mut impl Write) -> Result<(), String> {
+    match k {
+        0 => Ok(()),
+        _ => writeln!(out, "{SEPARATOR}").map_err(|e| e.to_string()),
+    }
+}
+
+fn write_out(bytes: &[u8]) -> Result<(), String> {
+    io::stdout().write_all(bytes).map_err(|e| e.to_string())
+}
+
+fn number<T: std::str::FromStr>(s: &str) -> Result<T, String> {
+    s.parse().map_err(|_| format!("`{s}` is not a number\n{USAGE}"))
+}

@@ -1,0 +1,80 @@
+//! The tape of a gate list: header, then one record a gate. Gates that have no
+//! code of their own come as given matrices.
+
+use crate::list::List;
+use original::gate::Gate;
+
+const HEADER: [u8; 2] = [0x51, 0x48];
+const GATE: [u8; 2] = [0x51, 0x47];
+
+/// Code of a given 2 by 2 matrix.
+const GIVEN2: u8 = 0x0f;
+/// Code of a given 4 by 4 matrix.
+const GIVEN4: u8 = 0x1f;
+
+/// The codes of the named one-qubit gates, each with an example.
+pub const NAMED1: [(u8, Gate); 9] = [
+    (0x00, Gate::I(0)),
+    (0x01, Gate::H(0)),
+    (0x02, Gate::X(0)),
+    (0x03, Gate::Y(0)),
+    (0x04, Gate::Z(0)),
+    (0x05, Gate::S(0)),
+    (0x06, Gate::Sdg(0)),
+    (0x07, Gate::Sx(0)),
+    (0x08, Gate::Sxdg(0)),
+];
+
+/// The codes of the named two-qubit gates, each with an example.
+pub const NAMED2: [(u8, Gate); 5] = [
+    (0x10, Gate::Cnot(0, 1)),
+    (0x11, Gate::Cz(0, 1)),
+    (0x12, Gate::Swap(0, 1)),
+    (0x13, Gate::ISwap(0, 1)),
+    (0x14, Gate::ISwapdg(0, 1)),
+];
+
+/// Code of the three-qubit gate.
+const CCX: u8 = 0x20;
+
+/// The bytes of a list's tape.
+pub fn tape(list: &List) -> Result<Vec<u8>, String> {
+    let n = u8::try_from(list.n).map_err(|_| format!("a tape has one byte for n = {}", list.n))?;
+    let mut out = HEADER.to_vec();
+    out.extend([n, list.flags]);
+    out.extend(list.tol.to_le_bytes());
+    out.extend(list.limit.to_le_bytes());
+    for g in &list.gates {
+        out.extend(GATE);
+        out.push(code(g));
+        out.extend(g.qubits().iter().map(|&q| q as u8));
+        out.extend(given(g).iter().flat_map(|x| x.to_le_bytes()));
+    }
+    Ok(out)
+}
+
+/// The code of a gate.
+fn code(g: &Gate) -> u8 {
+    let same_kind = |x: &Gate| std::mem::discriminant(x) == std::mem::discriminant(g);
+    let named = NAMED1.iter().chain(&NAMED2).find(|row| same_kind(&row.1));
+    match (named, g.arity()) {
+        (Some(row), _) => row.0,
+        (None, 1) => GIVEN2,
+        (None, 2) => GIVEN4,
+        (None, _) => CCX,
+    }
+}
+
+/// The entries that follow a gate's qubits: none unless its matrix is given.
+fn given(g: &Gate) -> Vec<f64> {
+    match code(g) {
+        GIVEN2 => entries(&g.matrix_1q().expect("a one-qubit gate")),
+        GIVEN4 => entries(&g.matrix_2q().expect("a two-qubit gate")),
+        _ => vec![],
+    }
+}
+
+/// The entries of a matrix, row by row, real before imaginary.
+pub fn entries<const K: usize>(m: &[[original::Complex64; K]; K]) -> Vec<f64> {
+    m.iter().flatten().flat_map(|x| [x.re, x.im]).collect()
+}
