@@ -1,26 +1,12 @@
 -- The words of the contracts of the inner functions of `root`, over whole numbers. Definitions only.
 use mathlib.Core.Path.{_≡_}
-use Prim.Native.Nat.{ℕ, _+_, _-_, _*_, _%_, _^_, _≤_, _<_}
+use Prim.Native.Nat.{ℕ, _+_, _-_, _*_, _/_, _%_, _^_, _≤_, _<_}
 use mathlib.Core.Bool.{not}
 use lib.Dec.{T}
 use lib.Ieee.{binary64, ofBits, nanBits}
-use Rattle.num.specs.Root.{Nearest}
+use Rattle.num.specs.Root.{grains, Nearest}
 
 -- ---- the parts of a pattern
-
--- the exponent's field e, where 0 counts as 1
-pub record Field (e r : ℕ) : Type 0 where
-  pub zero : e ≡ 0 → r ≡ 1
-  pub other : 0 < e → r ≡ e
-  pub low : 1 ≤ r
-  pub high : r ≤ e + 1
-
--- the digits t, with the leading one where the field e is not 0
-pub record Lead (e t r : ℕ) : Type 0 where
-  pub zero : e ≡ 0 → r ≡ t
-  pub other : 0 < e → r ≡ t + 2 ^ 52
-  pub short : r < 2 ^ 53
-  pub some : 0 < e + t → 0 < r
 
 -- m is t moved up by s places, so that its leading digit stands at the place 52
 pub record Moved (t m s : ℕ) : Type 0 where
@@ -28,6 +14,17 @@ pub record Moved (t m s : ℕ) : Type 0 where
   pub high : 2 ^ 52 ≤ m
   pub short : m < 2 ^ 53
   pub few : s ≤ 52
+
+-- the number with the pattern b has n * 2 ^ (w - 1) grains; its digits m are n moved up by s places, and its exponent u goes down by as many
+pub record PartsOf (b m u : ℕ) : Type 0 where
+  pub n : ℕ
+  pub w : ℕ
+  pub s : ℕ
+  pub value : grains (ofBits binary64 b) ≡ n * 2 ^ (w - 1)
+  pub moved : Moved n m s
+  pub first : 1 ≤ w
+  pub last : w ≤ b / 2 ^ 52 + 1
+  pub sum : u + s ≡ w + 1023
 
 -- r is m or twice m, by whether u is even
 pub record Evened (u m r : ℕ) : Type 0 where

@@ -6,7 +6,7 @@ ghost use mathlib.Core.Path.{_≡_};
 ghost use Prim.Native.Nat.{_+_, _*_, _^_, _≤_, _<_};
 ghost use Rattle.num.specs.Root.{RootOf, sqrtOf};
 ghost use Rattle.num.specs.Bits.{infBits};
-ghost use Rattle.num.specs.Parts.{Moved, WholeRoot, Field, Lead, Evened, SquareOf, Rounded, RootBits};
+ghost use Rattle.num.specs.Parts.{Moved, PartsOf, WholeRoot, Evened, SquareOf, Rounded, RootBits};
 use super::bits::INFINITY;
 
 const TWO_25: u64 = 1 << 25;
@@ -47,22 +47,7 @@ fn normalise(t: u64) -> Norm
     Norm { m, s }
 }
 
-// The exponent's field e, where that of a subnormal number counts as 1.
-fn field(e: u64) -> u64
-    ensures { λ r. ⌜ Field e r ⌝ }
-{
-    if e == 0 { 1 } else { e }
-}
-
-// The digits t, with the leading one that only a subnormal number lacks.
-fn lead(e: u64, t: u64) -> u64
-    requires { ⌜ t < 2 ^ 52 ⌝ }
-    ensures { λ r. ⌜ Lead e t r ⌝ }
-{
-    if e == 0 { t } else { t + TWO_52 }
-}
-
-// m, or twice m where the exponent u is odd.
+// m, or twice m where u is odd.
 fn evened(u: u64, m: u64) -> u64
     requires { ⌜ m < 2 ^ 53 ⌝ }
     ensures { λ r. ⌜ Evened u m r ⌝ }
@@ -155,23 +140,19 @@ fn adjusted(a: u64, r: u64, k: u64, low: u64) -> u64
     0
 }
 
-// Near 1 / √(2v) for v from 1 to 2: within 1 in 70,000, by a polynomial.
+// Near √v for v from 1 to 2: within 1 in 600,000, by a polynomial.
 fn start(v: f64) -> f64 {
     let w = v * v;
-    let low = 1.607874237631855 - 1.8735883980844281 * v;
-    let middle = 1.5530090647615306 - 0.7571868706000827 * v;
-    let high = 0.19868136070135442 - 0.0216920458108377 * v;
+    let low = 0.2936052298139465 + 1.0282160611107265 * v;
+    let middle = -0.474330114177315 + 0.19460013574395126 * v;
+    let high = -0.0469728795524191 + 0.00488320646284986 * v;
     low + w * middle + w * w * high
 }
 
-// Near the root of y, which is v or 2v, with v from 1 to 2; k is √2 or 1. A step of Newton's for
-// 1 / √y, made with the root in one go, and a step for the root.
-fn newton(v: f64, y: f64, k: f64) -> f64 {
-    let g = start(v);
-    let c = 1.5 - v * g * g;
-    let h = k * g;
-    let s = y * h * c;
-    s + 0.5 * h * c * (y - s * s)
+// A root of y made better by a step of Halley's: three times as many digits.
+fn halley(y: f64, s: f64) -> f64 {
+    let t = s * s;
+    s + (s + s) * (y - t) / (3.0 * t + y)
 }
 
 // Near the root of m / 2^52, or of twice that where p is 1.
@@ -181,8 +162,8 @@ fn guess(p: u64, m: u64) -> f64
     let b = HALF + m;
     let v = f64::from_bits(b);
     let y = f64::from_bits(b + p * TWO_52);
-    let k = f64::from_bits(ROOT_TWO - p * (ROOT_TWO - ONE));
-    newton(v, y, k)
+    let k = f64::from_bits(ONE + p * (ROOT_TWO - ONE));
+    halley(y, k * start(v))
 }
 
 // The whole number nearest the root of a * 2^52, from a guess at it, divided by 2^52.
@@ -201,16 +182,39 @@ fn nearest(a: u64, guess: f64) -> u64
     by_digits(a)
 }
 
-// The pattern of the root of the number above zero with the pattern b. u is that number's exponent's
-// field, once its leading digit stands at the place 52, and BIAS more; half of it is the root's field,
+// A number as its digits m, the leading one at the place 52, and its exponent u: the field that it
+// has or, a subnormal number, would have, and BIAS more.
+struct Digits {
+    m: u64,
+    u: u64,
+}
+
+fn parts(b: u64) -> Digits
+    requires { ⌜ (0 < b) × (b < infBits) ⌝ }
+    ensures { λ r. ⌜ PartsOf b (r .m) (r .u) ⌝ }
+{
+    let e = b / TWO_52;
+    if e > 0 {
+        return Digits {
+            m: b % TWO_52 + TWO_52,
+            u: e + BIAS,
+        };
+    }
+    let n = normalise(b);
+    Digits {
+        m: n.m,
+        u: 1 + BIAS - n.s,
+    }
+}
+
+// The pattern of the root of the number above zero with the pattern b. Half of u is the root's field,
 // to which r's leading digit adds the last 1.
 fn root_bits(b: u64) -> u64
     requires { ⌜ (0 < b) × (b < infBits) ⌝ }
     ensures { λ r. ⌜ RootBits b r ⌝ }
 {
-    let e = b / TWO_52;
-    let n = normalise(lead(e, b % TWO_52));
-    let u = field(e) + BIAS - n.s;
+    let n = parts(b);
+    let u = n.u;
     let a = evened(u, n.m);
     let r = nearest(a, guess(u % 2, n.m));
     (u / 2 - 1) * TWO_52 + r

@@ -3,7 +3,7 @@
 use mathlib.Core.Path.{_≡_, refl, sym, ap, _∙_, subst}
 use mathlib.Core.Logic.{_⊎_, inl, inr}
 use Prim.Native.Nat.{ℕ, zero, suc, _+_, _-_, _*_, _/_, _%_, _^_, _≤_, _<_}
-use native.Mathlib.Nat.{zero-lt-suc, add-sub-of-le, mul-assoc, eq-or-lt-of-le}
+use native.Mathlib.Nat.{add-comm, add-sub-of-le, mul-assoc, mul-one, eq-or-lt-of-le}
 use native.Mathlib.Omega.{arith}
 use mathlib.Core.Bool.{Bool, false, not, cond}
 use lib.Dec.{T, leb, eqb, eqb→eq, not-T}
@@ -13,7 +13,7 @@ use lib.Ieee.{Float, nan, inf, binary64, odd, isNan, ofBits, ofFields}
 use lib.Ieee.Bits.{is-false, cond-no, ofBits-fits, nanBits-is}
 use Rattle.num.specs.Root.{perOne, grains, plain}
 use Rattle.num.specs.Bits.{infBits}
-use Rattle.num.specs.Parts.{Moved, Field, Lead, Evened, Rounded, RootBits}
+use Rattle.num.specs.Parts.{Moved, PartsOf, Evened, Rounded, RootBits}
 use Rattle.num.proofs.Middle.{Middle}
 use Rattle.num.proofs.Grains.{grains-odd, plain-odd}
 use Rattle.num.proofs.Nearest.{near}
@@ -48,24 +48,30 @@ read-suc x t h =
     no : (y : ℕ) → y ≡ 2047 → y < 2047 → ⊥
     no y e h = omega arith
 
--- the grains of what the fields e and t stand for
-grains-fields : (e t m w : ℕ) → e < 2047 → Field e w → Lead e t m → grains (ofFields binary64 false e t) ≡ m * 2 ^ (w - 1)
-grains-fields zero t m w h F L =
-    ap grains (read-zero t)
-    ∙ grains-odd 53 false t 0
-    ∙ ap (λ (z : ℕ). z * 1) (sym (L .zero refl))
-    ∙ ap (λ (z : ℕ). m * 2 ^ (z - 1)) (sym (F .zero refl))
-grains-fields (suc x) t m w h F L =
-    ap grains (read-suc x t h)
-    ∙ grains-odd 53 false (2 ^ 52 + t) x
-    ∙ ap (λ (z : ℕ). z * 2 ^ x) (swap t m (L .other (zero-lt-suc x)))
-    ∙ ap (λ (z : ℕ). m * 2 ^ z) (pre x w (F .other (zero-lt-suc x)))
+-- the grains of a normal and of a subnormal number
+pub normal : (b e : ℕ) → b < infBits → b / 2 ^ 52 ≡ suc e → grains (ofBits binary64 b) ≡ (b % 2 ^ 52 + 2 ^ 52) * 2 ^ e
+normal b e B h =
+    ap grains (read b (suc e) (b % 2 ^ 52) (pos b B) h refl ∙ read-suc e (b % 2 ^ 52) (field b e B h))
+    ∙ grains-odd 53 false (2 ^ 52 + b % 2 ^ 52) e
+    ∙ ap (λ (z : ℕ). z * 2 ^ e) (add-comm (2 ^ 52) (b % 2 ^ 52))
   where
-    swap : (t m : ℕ) → m ≡ t + 2 ^ 52 → 2 ^ 52 + t ≡ m
-    swap t m h = omega arith
+    pos : (b : ℕ) → b < infBits → b < 2 ^ 63
+    pos b h = omega arith
 
-    pre : (x w : ℕ) → w ≡ suc x → x ≡ w - 1
-    pre x w h = omega arith
+    field : (b e : ℕ) → b < infBits → b / 2 ^ 52 ≡ suc e → suc e < 2047
+    field b e B h = omega arith
+
+pub subnormal : (b : ℕ) → b < 2 ^ 52 → grains (ofBits binary64 b) ≡ b * 1
+subnormal b h = ap grains (read b 0 b (pos b h) (none b h) (whole b h) ∙ read-zero b) ∙ grains-odd 53 false b 0
+  where
+    pos : (b : ℕ) → b < 2 ^ 52 → b < 2 ^ 63
+    pos b h = omega arith
+
+    none : (b : ℕ) → b < 2 ^ 52 → b / 2 ^ 52 ≡ 0
+    none b h = omega arith
+
+    whole : (b : ℕ) → b < 2 ^ 52 → b % 2 ^ 52 ≡ b
+    whole b h = omega arith
 
 -- ---- writing one: r's leading digit adds the 1 to the field
 
@@ -133,14 +139,46 @@ scale n w s u a m W U e M E = go (eq-or-lt-of-le (at-most u))
         once : (a m : ℕ) → a ≡ m → a ≡ m * 1
         once a m e = omega arith
 
+-- ---- `parts`
+
+pub normal-parts : (b : ℕ) → b < infBits → 0 < b / 2 ^ 52 → PartsOf b (b % 2 ^ 52 + 2 ^ 52) (b / 2 ^ 52 + 1023)
+normal-parts b B h = record {
+  n = b % 2 ^ 52 + 2 ^ 52;
+  w = b / 2 ^ 52;
+  s = 0;
+  value = normal b (b / 2 ^ 52 - 1) B (back (b / 2 ^ 52) h);
+  moved = record { is = sym (mul-one (b % 2 ^ 52 + 2 ^ 52)); high = omega arith; short = omega arith; few = omega arith };
+  first = h;
+  last = omega arith;
+  sum = omega arith;
+}
+  where
+    back : (e : ℕ) → 0 < e → e ≡ suc (e - 1)
+    back e h = omega arith
+
+pub subnormal-parts : (b m s : ℕ) → b < 2 ^ 52 → Moved b m s → PartsOf b m (1 + 1023 - s)
+subnormal-parts b m s h M = record {
+  n = b;
+  w = 1;
+  s = s;
+  value = subnormal b h;
+  moved = M;
+  first = omega arith;
+  last = omega arith;
+  sum = left s (M .few);
+}
+  where
+    left : (s : ℕ) → s ≤ 52 → 1 + 1023 - s + s ≡ 1 + 1023
+    left s h = omega arith
+
 -- ---- the whole of `root_bits`
 
-pub met : (b w n m s u a r : ℕ) → b < infBits → Field (b / 2 ^ 52) w → Lead (b / 2 ^ 52) (b % 2 ^ 52) n → Moved n m s → u ≡ w + 1023 - s → Evened u m a
-    → Rounded a r → RootBits b ((u / 2 - 1) * 2 ^ 52 + r)
-met b w n m s u a r B F L M U E R = record {
+pub met : (b m u a r : ℕ) → b < infBits → PartsOf b m u → Evened u m a → Rounded a r → RootBits b ((u / 2 - 1) * 2 ^ 52 + r)
+met b m u a r B P E R = record {
   near =
       near (ofBits binary64 b) (ofBits binary64 (g * 2 ^ 52 + r)) (a * 2 ^ 52) r g mid
-      (ap (λ (z : ℕ). z * perOne) x-is ∙ scale n w s u a m (F .low) (two w u s (F .low) (M .few) U) (sum w u s (M .few) U) (M .is) E)
+      (ap (λ (z : ℕ). z * perOne) (P .value)
+      ∙ scale (P .n) (P .w) (P .s) u a m (P .first) (two (P .w) u (P .s) (P .first) (P .moved .few) (P .sum)) (P .sum) (P .moved .is) E)
       (ofBits-fits binary64 (g * 2 ^ 52 + r))
       (subst (λ (v : Float). T (plain v)) (sym is) (plain-odd 53 r g 1074))
       (ap grains is ∙ grains-odd 53 false r g);
@@ -156,25 +194,13 @@ met b w n m s u a r B F L M U E R = record {
     big a m h k = omega arith
 
     mid : Middle (a * 2 ^ 52) r
-    mid = in-middle a r (big a m (M .high) (E .high)) R
+    mid = in-middle a r (big a m (P .moved .high) (E .high)) R
 
-    room : (w u s b : ℕ) → b < infBits → w ≤ b / 2 ^ 52 + 1 → u ≡ w + 1023 - s → u / 2 - 1 < 2045
+    room : (w u s b : ℕ) → b < infBits → w ≤ b / 2 ^ 52 + 1 → u + s ≡ w + 1023 → u / 2 - 1 < 2045
     room w u s b B F U = omega arith
 
     is : ofBits binary64 (g * 2 ^ 52 + r) ≡ odd 53 false r g 1074
-    is = write g r (room w u s b B (F .high) U) (mid .enough) (short a r (E .short) R)
+    is = write g r (room (P .w) u (P .s) b B (P .last) (P .sum)) (mid .enough) (short a r (E .short) R)
 
-    pos : (b : ℕ) → b < infBits → b < 2 ^ 63
-    pos b h = omega arith
-
-    field : (b : ℕ) → b < infBits → b / 2 ^ 52 < 2047
-    field b h = omega arith
-
-    x-is : grains (ofBits binary64 b) ≡ n * 2 ^ (w - 1)
-    x-is = ap grains (read b (b / 2 ^ 52) (b % 2 ^ 52) (pos b B) refl refl) ∙ grains-fields (b / 2 ^ 52) (b % 2 ^ 52) n w (field b B) F L
-
-    two : (w u s : ℕ) → 1 ≤ w → s ≤ 52 → u ≡ w + 1023 - s → 2 ≤ u
+    two : (w u s : ℕ) → 1 ≤ w → s ≤ 52 → u + s ≡ w + 1023 → 2 ≤ u
     two w u s h k U = omega arith
-
-    sum : (w u s : ℕ) → s ≤ 52 → u ≡ w + 1023 - s → u + s ≡ w + 1023
-    sum w u s h U = omega arith

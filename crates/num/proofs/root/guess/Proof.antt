@@ -28,4 +28,5 @@ guess-spec =
     (λ c. search needs)
     float-from-bits-k
     (λ c κs. search needs)
+    (λ c κs. search needs)
     (λ c. search needs))
