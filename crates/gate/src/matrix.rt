@@ -1,7 +1,7 @@
 // Matrices by value, as structs of rows, and their products, entry by entry as the original
 // computes them: same operations, same order.
 ghost use mathlib.Core.Path.{_≡_};
-ghost use Rattle.gate.specs.Matrix.{dot2Of, mul2Of, dag2Of, kronRowOf, kronOf, axpyOf, rowMulOf, mul4Of, conjColumnOf, dag4Of, turnedRowOf, mat4SwapQubitsOf, id2, timeStepOf};
+ghost use Rattle.gate.specs.Matrix.{dot2Of, mul2Of, dag2Of, kronRowOf, kronOf, axpyOf, mul4Of, conjColumnOf, dag4Of, turnedRowOf, mat4SwapQubitsOf, id2, timeStepOf};
 use crate::complex::Complex;
 
 pub struct Row2 {
@@ -99,30 +99,38 @@ fn axpy(m: Row4, x: Complex, row: Row4) -> Row4
     Row4 { c0, c1, c2, c3 }
 }
 
-// A row of the product of two 4 by 4 matrices: the rows of b, each times an entry of a's row.
-fn row_mul(row: Row4, b: Mat4) -> Row4
-    ensures { λ r. ⌜ r ≡ rowMulOf row b ⌝ }
+// Each row of the product is, from zeros, the rows of b, each times an entry of a's row. The calls
+// stand in one function so that no row's work copies b.
+pub fn mul4(a: Mat4, b: Mat4) -> Mat4
+    ensures { λ r. ⌜ r ≡ mul4Of a b ⌝ }
 {
     let z = Complex { re: 0.0, im: 0.0 };
-    let m0 = Row4 {
+    let m = Row4 {
         c0: z,
         c1: z,
         c2: z,
         c3: z,
     };
-    let m1 = axpy(m0, row.c0, b.r0);
-    let m2 = axpy(m1, row.c1, b.r1);
-    let m3 = axpy(m2, row.c2, b.r2);
-    axpy(m3, row.c3, b.r3)
-}
-
-pub fn mul4(a: Mat4, b: Mat4) -> Mat4
-    ensures { λ r. ⌜ r ≡ mul4Of a b ⌝ }
-{
-    let r0 = row_mul(a.r0, b);
-    let r1 = row_mul(a.r1, b);
-    let r2 = row_mul(a.r2, b);
-    let r3 = row_mul(a.r3, b);
+    let r0 = axpy(
+        axpy(axpy(axpy(m, a.r0.c0, b.r0), a.r0.c1, b.r1), a.r0.c2, b.r2),
+        a.r0.c3,
+        b.r3,
+    );
+    let r1 = axpy(
+        axpy(axpy(axpy(m, a.r1.c0, b.r0), a.r1.c1, b.r1), a.r1.c2, b.r2),
+        a.r1.c3,
+        b.r3,
+    );
+    let r2 = axpy(
+        axpy(axpy(axpy(m, a.r2.c0, b.r0), a.r2.c1, b.r1), a.r2.c2, b.r2),
+        a.r2.c3,
+        b.r3,
+    );
+    let r3 = axpy(
+        axpy(axpy(axpy(m, a.r3.c0, b.r0), a.r3.c1, b.r1), a.r3.c2, b.r2),
+        a.r3.c3,
+        b.r3,
+    );
     Mat4 { r0, r1, r2, r3 }
 }
 
