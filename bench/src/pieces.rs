@@ -9,16 +9,18 @@ use oracle::tape::{entries, NAMED2};
 use original::access::detect::access as detect;
 use std::hint::black_box;
 
-/// Calls of one pass.
+/// Products of one pass.
 const CALLS: usize = 256;
+/// Roots of one pass: so many that the processor cannot learn how each is rounded.
+const ROOTS: usize = 65_536;
 
 /// Times every piece and prints the table.
 pub fn table(seed: u64) {
     let rng = &mut Rng::new(seed);
     println!("{:<22} {:>12} {:>12} {:>8}", "piece", "original ns", "port ns", "ratio");
-    let xs: Vec<f64> = (0..CALLS).map(|_| 4.0 * rng.unit()).collect();
-    row("sqrt", &mut || each(&xs, rust::sqrt), &mut || each(&xs, |x| leaf_sqrt(x)));
-    row("sqrt in a chain", &mut || chain(&xs, rust::sqrt), &mut || chain(&xs, |x| leaf_sqrt(x)));
+    let xs: Vec<f64> = (0..ROOTS).map(|_| 4.0 * rng.unit()).collect();
+    row("sqrt", ROOTS, &mut || each(&xs, rust::sqrt), &mut || each(&xs, |x| leaf_sqrt(x)));
+    row("sqrt in a chain", ROOTS, &mut || chain(&xs, rust::sqrt), &mut || chain(&xs, |x| leaf_sqrt(x)));
     let mul2 = |a: &Flat2, b: &Flat2| detect::mul2(mat2(a), mat2(b));
     let kron = |a: &Flat2, b: &Flat2| detect::kron(mat2(a), mat2(b));
     let mul4 = |a: &Flat4, b: &Flat4| detect::mul4(mat4(a), mat4(b));
@@ -31,8 +33,8 @@ pub fn table(seed: u64) {
 }
 
 /// Times both sides of a piece and prints a line.
-fn row(name: &str, original: &mut dyn FnMut(), port: &mut dyn FnMut()) {
-    let [a, b] = medians(original, port).map(|pass| pass / CALLS as f64);
+fn row(name: &str, calls: usize, original: &mut dyn FnMut(), port: &mut dyn FnMut()) {
+    let [a, b] = medians(original, port).map(|pass| pass / calls as f64);
     println!("{name:<22} {a:>12.1} {b:>12.1} {:>8.2}", b / a);
 }
 
@@ -68,7 +70,7 @@ fn products<const N: usize, R>(
             black_box(&out);
         }
     };
-    row(name, &mut original_pass, &mut port_pass);
+    row(name, CALLS, &mut original_pass, &mut port_pass);
 }
 
 fn pairs<const N: usize>(

@@ -125,3 +125,8 @@ bits-of-nan = refl
 nan-of-bits : ofBits binary64 0xfff0_0000_0000_0001 ≡ nan
 unfolding ofBits
 nan-of-bits = refl
+
+-- bounds the wrong way round: the upper one, and a NaN all the same
+clamp-turned : (clampOf plus-zero one minus-one ≡ minus-one) × (clampOf nan one minus-one ≡ nan)
+unfolding clampOf lt
+clamp-turned = (refl, refl)

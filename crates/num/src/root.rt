@@ -25,6 +25,8 @@ const HALF: u64 = 0x3fe0_0000_0000_0000; // the pattern of 0.5
 
 const ROOT_TWO: u64 = 0x3ff6_a09e_667f_3bcd; // the pattern of √2
 
+const ROUND: f64 = 201326592.0; // 3 * 2^26: added and taken away, it rounds a number from 1 to 2 to 2^-25
+
 const SLACK: u64 = 16; // how far off, in 2^52, a guess's square may be for the test's sums to fit
 
 // A number moved up by s binary places.
@@ -140,19 +142,19 @@ fn adjusted(a: u64, r: u64, k: u64, low: u64) -> u64
     0
 }
 
-// Near √v for v from 1 to 2: within 1 in 600,000, by a polynomial.
+// Near √v for v from 1 to 2: within 1 in 14,000, by a polynomial.
 fn start(v: f64) -> f64 {
-    let w = v * v;
-    let low = 0.2936052298139465 + 1.0282160611107265 * v;
-    let middle = -0.474330114177315 + 0.19460013574395126 * v;
-    let high = -0.0469728795524191 + 0.00488320646284986 * v;
-    low + w * middle + w * w * high
+    let low = 0.3699563895255296 + 0.7879232335393831 * v;
+    let high = -0.18274763511913752 + 0.024937426666417364 * v;
+    low + v * v * high
 }
 
-// A root of y made better by a step of Halley's: three times as many digits.
-fn halley(y: f64, s: f64) -> f64 {
-    let t = s * s;
-    s + (s + s) * (y - t) / (3.0 * t + y)
+// A root s of y made better, to four times as many digits, by a step of Householder's. It is first
+// rounded to 26 binary digits: then its square is exact, and the result nearly always the nearest.
+fn better(y: f64, s: f64) -> f64 {
+    let r = s + ROUND - ROUND;
+    let t = r * r;
+    r + (y - t) * (3.0 * t + y) / (4.0 * r * (t + y))
 }
 
 // Near the root of m / 2^52, or of twice that where p is 1.
@@ -163,7 +165,7 @@ fn guess(p: u64, m: u64) -> f64
     let v = f64::from_bits(b);
     let y = f64::from_bits(b + p * TWO_52);
     let k = f64::from_bits(ONE + p * (ROOT_TWO - ONE));
-    halley(y, k * start(v))
+    better(y, k * start(v))
 }
 
 // The whole number nearest the root of a * 2^52, from a guess at it, divided by 2^52.
