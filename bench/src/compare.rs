@@ -1,12 +1,17 @@
 //! Original and port on the same random operands, bit for bit; all NaNs count as one.
 
-use crate::inputs::{any, matrix, root, KINDS};
+use crate::inputs::{any, block, matrix, root, BLOCKS, KINDS};
 use crate::original_side::{self as rust, mat2, mat4, Flat2, Flat4};
 use crate::port::*;
 use oracle::bits::{same, texts};
 use oracle::rng::Rng;
 use oracle::tape::entries;
 use original::access::detect::access as detect;
+use original::access::detect::access::Kind;
+use original::access::detect::DetectOptions;
+
+/// The original's tolerance.
+const TOL: f64 = 1e-10;
 
 /// One comparison: its name, and what is told of it.
 struct Tally {
@@ -54,6 +59,13 @@ pub fn compare(seed: u64, count: usize, others: usize) -> bool {
         of_one("swap_qubits", rng, others, leaf_swap_qubits, |a: &Flat4| {
             entries(&detect::swap_qubits(mat4(a)))
         }),
+        of_one("map1", rng, others, leaf_majorana_map1, |u: &Flat2| {
+            flat(8, detect::majorana_map1(mat2(u)))
+        }),
+        of_one("map2", rng, others, leaf_majorana_map2, |u: &Flat4| {
+            flat(32, detect::majorana_map2(mat4(u)))
+        }),
+        classes(rng, others),
         lengths(),
     ];
     ends.iter().all(|&well| well)
@@ -125,6 +137,48 @@ fn of_one<const N: usize>(
     tally.end()
 }
 
+/// A map by rows and its residual, then zeros.
+fn flat<const K: usize>(len: usize, (q, residual): detect::Mapped<K>) -> Vec<f64> {
+    let mut all = q.concat();
+    all.push(residual);
+    all.resize(len, 0.0);
+    all
+}
+
+/// Classes of blocks and of other matrices, with and without relabelling: kind, swap, residual and matrix. Matrices that passed an
+/// off-diagonal test are compared if they are blocks of circuits: the phase of others may be a NaN, and there the two differ.
+fn classes(rng: &mut Rng, count: usize) -> bool {
+    let mut tally = Tally::new("classify2");
+    for i in 0..count {
+        let relabel = rng.chance(1, 2);
+        let is_block = i % 2 == 0;
+        let u: Flat4 = if is_block {
+            let kind = rng.pick(&BLOCKS);
+            block(rng, kind)
+        } else {
+            let kind = rng.pick(&KINDS);
+            matrix(rng, kind)
+        };
+        let mut got = vec![0.0; 32];
+        let code = classify2(relabel, TOL, &u, &mut got);
+        if code >= 8 && !is_block {
+            continue;
+        }
+        got.extend([f64::from(code % 8), class_residual(relabel, TOL, &u)]);
+        let opts = DetectOptions { tol: TOL, relabel_swaps: relabel, reorder: true };
+        let class = detect::classify2(mat4(&u), &opts);
+        let kind = match class.kind {
+            Kind::Diag => u8::from(class.g.abs() > TOL),
+            Kind::Match => 2,
+            Kind::NonGaussian => 3,
+        };
+        let mut want = entries(&class.v);
+        want.extend([f64::from(kind + 4 * u8::from(class.swap)), class.residual]);
+        tally.add(&[&u], &want, &got);
+    }
+    tally.end()
+}
+
 /// Nothing is written to a slice that is too short, and nothing beyond the
 /// result to one that is longer. The slice is part of a longer one, so that a
 /// wrong call shows and does no harm.
@@ -137,10 +191,19 @@ fn lengths() -> bool {
         let a = &operand[..len];
         kept(&mut tally, result, |out| call2(f, a, a, out));
     }
-    let of_one: [(Of1, usize); 3] = [(leaf_dag2, 8), (leaf_dag4, 32), (leaf_swap_qubits, 32)];
+    let of_one: [(Of1, usize); 5] = [
+        (leaf_dag2, 8),
+        (leaf_dag4, 32),
+        (leaf_swap_qubits, 32),
+        (leaf_majorana_map1, 8),
+        (leaf_majorana_map2, 32),
+    ];
     for (f, len) in of_one {
         kept(&mut tally, len, |out| call1(f, &operand[..len], out));
     }
+    kept(&mut tally, 32, |out| {
+        classify2(true, TOL, &operand, out);
+    });
     tally.end()
 }
 

@@ -1,6 +1,9 @@
 //! Random operands of every kind that a float has.
 
 use oracle::rng::Rng;
+use oracle::tape::{entries, NAMED2};
+use original::access::detect::access as detect;
+use original::gate::{Gate, Mat2, Mat4};
 
 const POSITIVE: u64 = u64::MAX >> 1;
 
@@ -82,4 +85,51 @@ pub fn matrix<const N: usize>(rng: &mut Rng, kind: Kind) -> [f64; N] {
         }
     }
     out
+}
+
+/// A two-qubit block of a circuit.
+#[derive(Clone, Copy)]
+pub enum Block {
+    /// A named gate.
+    Named,
+    /// Two named gates with a turn of each qubit between them: no zeros, as a rule.
+    Turned,
+    /// A matchgate with random angles.
+    Matchgate,
+}
+
+/// All of them.
+pub const BLOCKS: [Block; 3] = [Block::Named, Block::Turned, Block::Matchgate];
+
+pub fn block(rng: &mut Rng, kind: Block) -> [f64; 32] {
+    let m = match kind {
+        Block::Named => named(rng),
+        Block::Turned => {
+            let turns = detect::kron(&turn(rng), &turn(rng));
+            detect::mul4(&named(rng), &detect::mul4(&turns, &named(rng)))
+        }
+        Block::Matchgate => {
+            let [[a, b], [c, d]] = turn(rng);
+            let [[e, f], [g, h]] = turn(rng);
+            let z = a - a;
+            [[a, z, z, b], [z, e, f, z], [z, g, h, z], [c, z, z, d]]
+        }
+    };
+    entries(&m).try_into().expect("32 entries")
+}
+
+/// The matrix of a named two-qubit gate.
+fn named(rng: &mut Rng) -> Mat4 {
+    let (_, gate) = rng.pick(&NAMED2);
+    gate.matrix_2q().expect("a two-qubit gate")
+}
+
+/// A turn of one qubit about a random axis.
+fn turn(rng: &mut Rng) -> Mat2 {
+    let mut angle = || 6.3 * rng.unit();
+    let (a, b) = (angle(), angle());
+    let first = Gate::Rz(0, a).matrix_1q().expect("one qubit");
+    let second = Gate::Rx(0, b).matrix_1q().expect("one qubit");
+    let third = Gate::Rz(0, angle()).matrix_1q().expect("one qubit");
+    detect::mul2(&third, &detect::mul2(&second, &first))
 }

@@ -45,6 +45,17 @@ extern "C" {
     pub fn leaf_dag2(a: *const f64, an: usize, out: *mut f64, outn: usize);
     pub fn leaf_dag4(a: *const f64, an: usize, out: *mut f64, outn: usize);
     pub fn leaf_swap_qubits(a: *const f64, an: usize, out: *mut f64, outn: usize);
+    pub fn leaf_majorana_map1(u: *const f64, un: usize, out: *mut f64, outn: usize);
+    pub fn leaf_majorana_map2(u: *const f64, un: usize, out: *mut f64, outn: usize);
+    fn leaf_classify2(
+        relabel: bool,
+        tol: f64,
+        u: *const f64,
+        un: usize,
+        out: *mut f64,
+        outn: usize,
+    ) -> u32;
+    fn leaf_class_residual(relabel: bool, tol: f64, u: *const f64, un: usize) -> f64;
 }
 
 /// Calls a function of two matrices on slices.
@@ -57,4 +68,16 @@ pub fn call2(f: Of2, a: &[f64], b: &[f64], out: &mut [f64]) {
 pub fn call1(f: Of1, a: &[f64], out: &mut [f64]) {
     // SAFETY: each pointer comes with the length of its slice, and the two do not overlap.
     unsafe { f(a.as_ptr(), a.len(), out.as_mut_ptr(), out.len()) }
+}
+
+/// The number of a block's class (see crates/leaves/specs/Classes.antt); the matrix to apply goes to `out`.
+pub fn classify2(relabel: bool, tol: f64, u: &[f64], out: &mut [f64]) -> u32 {
+    // SAFETY: each pointer comes with the length of its slice, and the two do not overlap.
+    unsafe { leaf_classify2(relabel, tol, u.as_ptr(), u.len(), out.as_mut_ptr(), out.len()) }
+}
+
+/// The residual of a block's class.
+pub fn class_residual(relabel: bool, tol: f64, u: &[f64]) -> f64 {
+    // SAFETY: the pointer comes with the length of its slice.
+    unsafe { leaf_class_residual(relabel, tol, u.as_ptr(), u.len()) }
 }

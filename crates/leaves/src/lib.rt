@@ -2,14 +2,26 @@
 // or 32 floats, row by row, real before imaginary. A slice that is too short reads as zeros, and
 // nothing is written to one.
 ghost use mathlib.Core.Path.{_≡_};
+ghost use mathlib.Core.Bool.{cond};
+ghost use Prim.Native.Nat.{_<_, _≤_};
 ghost use lib.Ieee.{binary64, ofBits};
 ghost use Rattle.num.specs.Root.{sqrtOf};
 ghost use Rattle.num.specs.Order.{absOf, maxOf, minOf, clampOf};
 ghost use Rattle.num.specs.Bits.{bitsOf};
 ghost use Rattle.gate.specs.Matrix.{mul2Of, dag2Of, kronOf, mul4Of, dag4Of, mat4SwapQubitsOf};
+ghost use Rattle.majorana.specs.Majorana.{majoranaMap1Of, majoranaMap2Of};
+ghost use Rattle.majorana.specs.Classify.{classify2Of, residualOf};
 ghost use Rattle.leaves.specs.Slices.{first2Of, first4Of, put2Of, put4Of};
+ghost use Rattle.leaves.specs.Classes.{flat2Of, flat4Of, kindCodeOf, codeOf};
+use gate::Complex;
 use gate::Mat2;
 use gate::Mat4;
+use gate::Row2;
+use gate::Row4;
+use majorana::Class2;
+use majorana::Kind2;
+use majorana::Mapped2;
+use majorana::Mapped4;
 
 #[no_mangle]
 pub extern "C" fn leaf_sqrt(x: f64) -> f64
@@ -139,4 +151,154 @@ pub extern "C" fn leaf_swap_qubits(a: &[f64], out: &mut [f64])
     ensures { λ _. ⌜ now (out .exit) ≡ put4Of (now (out .entry)) (mat4SwapQubitsOf (first4Of (now (a .entry)))) ⌝ }
 {
     put4(out, gate::mat4_swap_qubits(first4(a)));
+}
+
+const ZERO: Complex = Complex { re: 0.0, im: 0.0 };
+
+// The 4 entries of a map, its residual and zeros, as the 8 floats of a matrix.
+fn flat2(m: Mapped2) -> Mat2
+    ensures { λ r. ⌜ r ≡ flat2Of m ⌝ }
+{
+    let q = m.q;
+    let a = Complex {
+        re: q.r0.x0,
+        im: q.r0.x1,
+    };
+    let b = Complex {
+        re: q.r1.x0,
+        im: q.r1.x1,
+    };
+    let c = Complex {
+        re: m.residual,
+        im: 0.0,
+    };
+    Mat2 {
+        r0: Row2 { c0: a, c1: b },
+        r1: Row2 { c0: c, c1: ZERO },
+    }
+}
+
+// The 16 entries of a map, its residual and zeros, as the 32 floats of a matrix.
+fn flat4(m: Mapped4) -> Mat4
+    ensures { λ r. ⌜ r ≡ flat4Of m ⌝ }
+{
+    let q = m.q;
+    let r0 = Row4 {
+        c0: Complex {
+            re: q.r0.x0,
+            im: q.r0.x1,
+        },
+        c1: Complex {
+            re: q.r0.x2,
+            im: q.r0.x3,
+        },
+        c2: Complex {
+            re: q.r1.x0,
+            im: q.r1.x1,
+        },
+        c3: Complex {
+            re: q.r1.x2,
+            im: q.r1.x3,
+        },
+    };
+    let r1 = Row4 {
+        c0: Complex {
+            re: q.r2.x0,
+            im: q.r2.x1,
+        },
+        c1: Complex {
+            re: q.r2.x2,
+            im: q.r2.x3,
+        },
+        c2: Complex {
+            re: q.r3.x0,
+            im: q.r3.x1,
+        },
+        c3: Complex {
+            re: q.r3.x2,
+            im: q.r3.x3,
+        },
+    };
+    let r2 = Row4 {
+        c0: Complex {
+            re: m.residual,
+            im: 0.0,
+        },
+        c1: ZERO,
+        c2: ZERO,
+        c3: ZERO,
+    };
+    let r3 = Row4 {
+        c0: ZERO,
+        c1: ZERO,
+        c2: ZERO,
+        c3: ZERO,
+    };
+    Mat4 { r0, r1, r2, r3 }
+}
+
+#[no_mangle]
+pub extern "C" fn leaf_majorana_map1(u: &[f64], out: &mut [f64])
+    ensures { λ _. ⌜ now (out .exit) ≡ put2Of (now (out .entry)) (flat2Of (majoranaMap1Of (first2Of (now (u .entry))))) ⌝ }
+{
+    put2(out, flat2(majorana::majorana_map1(first2(u))));
+}
+
+#[no_mangle]
+pub extern "C" fn leaf_majorana_map2(u: &[f64], out: &mut [f64])
+    ensures { λ _. ⌜ now (out .exit) ≡ put4Of (now (out .entry)) (flat4Of (majoranaMap2Of (first4Of (now (u .entry))))) ⌝ }
+{
+    put4(out, flat4(majorana::majorana_map2(first4(u))));
+}
+
+fn kind_code(k: Kind2) -> u32
+    ensures { λ r. ⌜ (r ≡ kindCodeOf k) × (r < 4) ⌝ }
+{
+    match k {
+        Kind2::Diag => 0,
+        Kind2::Interaction => 1,
+        Kind2::Match(_) => 2,
+        Kind2::NonGaussian(_) => 3,
+    }
+}
+
+fn weight(b: bool, w: u32) -> u32
+    ensures { λ r. ⌜ (r ≡ cond b w 0) × (r ≤ w) ⌝ }
+{
+    if b {
+        return w;
+    }
+    0
+}
+
+// The number of a class.
+fn code(c: Class2) -> u32
+    ensures { λ r. ⌜ r ≡ codeOf c ⌝ }
+{
+    let k = c.kind;
+    let n = kind_code(k);
+    let s = weight(c.swap, 4);
+    let a = weight(c.angled, 8);
+    n + s + a
+}
+
+// Writes the matrix to apply, and returns the class's number.
+#[no_mangle]
+pub extern "C" fn leaf_classify2(relabel: bool, tol: f64, u: &[f64], out: &mut [f64]) -> u32
+    ensures number { λ r. ⌜ r ≡ codeOf (classify2Of relabel tol (first4Of (now (u .entry)))) ⌝ }
+    ensures matrix { λ _. ⌜ now (out .exit) ≡ put4Of (now (out .entry)) (classify2Of relabel tol (first4Of (now (u .entry))) .v) ⌝ }
+{
+    let c = majorana::classify2(relabel, tol, first4(u));
+    put4(out, c.v);
+    code(c)
+}
+
+// The residual of the class.
+#[no_mangle]
+pub extern "C" fn leaf_class_residual(relabel: bool, tol: f64, u: &[f64]) -> f64
+    ensures { λ r. ⌜ r ≡ residualOf (classify2Of relabel tol (first4Of (now (u .entry))) .kind) ⌝ }
+{
+    let c = majorana::classify2(relabel, tol, first4(u));
+    let k = c.kind;
+    majorana::residual(k)
 }

@@ -1,0 +1,5 @@
+-- Laws on the definitions of `majorana`, for its proofs and for other crates to cite.
+pub mod Entries
+pub mod OneRoot
+pub mod Norms
+mod Examples

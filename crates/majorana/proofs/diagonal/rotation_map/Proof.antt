@@ -1,0 +1,13 @@
+-- `majorana::diagonal::rotation_map` meets its contract: it is the formula.
+-- Assumes nothing.
+use mathlib.Core.Path.{refl}
+use Rattle.majorana.specs.Diagonal.{rotationMapOf}
+use Rattle.majorana.proofs.diagonal.rotation_map.Statement.{statement}
+use Rattle.majorana.proofs.diagonal.rotation_map.Tie as tie
+
+returns : tie.Need-returns
+unfolding rotationMapOf
+returns c = refl
+
+pub rotation-map-spec : {M : Type 1} → statement M
+rotation-map-spec = tie.close (tie.spec returns)

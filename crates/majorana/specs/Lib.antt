@@ -1,0 +1,8 @@
+-- What the contracts of `majorana` speak of. Definitions only.
+pub mod Maps
+pub mod Majorana
+pub mod Diagonal
+pub mod Classify
+pub mod Numbers
+-- of the inner functions
+pub mod Parts

@@ -1,0 +1,24 @@
+-- Theorems on monomial blocks. Assumes nothing.
+pub mod Known
+pub mod Products
+pub mod Complexes
+pub mod Entries
+pub mod Traces
+pub mod Tests
+pub mod Operators
+pub mod Images
+pub mod Permutations
+pub mod Blocks
+pub mod Moves
+pub mod Roots
+pub mod Fitting
+pub mod Single
+pub mod Tolerances
+pub mod Diagonals
+pub mod Rotations
+pub mod Phases
+pub mod Algebra
+pub mod Gates
+pub mod Classes
+pub mod Examples
+pub mod States

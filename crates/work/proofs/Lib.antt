@@ -1,0 +1,2 @@
+-- Laws of the marks, for other crates. Assumes nothing.
+pub mod Records

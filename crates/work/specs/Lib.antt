@@ -1,0 +1,3 @@
+-- The layout of the lent work, which the passes from fusing to the order share. Assumes nothing.
+pub mod Marks
+pub mod Columns

@@ -1,0 +1,36 @@
+// The layout of the lent work: for each gate and each slot a record of 64 floats and 32 marks.
+// Every address among the marks is made here; floats are read and written by rows, in crate gate.
+
+mod columns; // what each column of the marks holds, and the kinds of a record
+mod marks; // a mark read, a mark written
+
+pub use columns::A;
+pub use columns::AT;
+pub use columns::B;
+pub use columns::C;
+pub use columns::CONTENT;
+pub use columns::DIAGONAL_ITEM;
+pub use columns::EDGE_HI;
+pub use columns::EDGE_LO;
+pub use columns::FIRST_TAIL;
+pub use columns::GONE;
+pub use columns::HI;
+pub use columns::INTERACTION_ITEM;
+pub use columns::KIND;
+pub use columns::LAB;
+pub use columns::LO;
+pub use columns::MATCH_ITEM;
+pub use columns::NEITHER_ITEM;
+pub use columns::ONE;
+pub use columns::ONE_ITEM;
+pub use columns::OPAQUE_ITEM;
+pub use columns::ORDER;
+pub use columns::POS;
+pub use columns::SECOND_TAIL;
+pub use columns::START;
+pub use columns::THREE;
+pub use columns::TWO;
+pub use columns::USED;
+pub use columns::WEIGHT;
+pub use marks::mark;
+pub use marks::put_mark;
