@@ -1,0 +1,9 @@
+pub mod Tests
+pub mod CodeLaws
+pub mod HeaderLaws
+pub mod RecordLaws
+pub mod WalkLaws
+pub mod Walks
+pub mod CursorLaws
+pub mod GoodLaws
+pub mod Prefix
