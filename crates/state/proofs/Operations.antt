@@ -1,0 +1,118 @@
+-- Laws of operations: a decoded one has its modes below n; what was written as a mode is read back. Assumes nothing.
+use mathlib.Core.Path.{_≡_, refl, sym, subst}
+use mathlib.Core.Logic.{⊎-elim}
+use mathlib.Core.Bool.{Bool, true, false, cond, _&&_}
+use mathlib.Core.List.{List}
+use Prim.Native.Nat.{ℕ, zero, suc, _+_, _-_, _≤_, _<_}
+use native.Mathlib.Nat.{le-of-suc-le-suc, not-suc-le-zero, eq-or-lt-of-le}
+use native.Mathlib.Omega.{arith}
+use lib.Dec.{T, eqb, ltb, eqb→eq}
+use lib.IntN.{pos}
+use lib.ListN.{length}
+use lib.Ieee.{Float, binary64, ofBits, ofInt, toUnsigned, neg, lt, eq}
+use borrow.Author.Tests.{ltb-true, lt-ltb}
+use Rattle.state.specs.Bounds.{maxQubits, opPlaces}
+use Rattle.state.specs.Modes.{allBelow}
+use Rattle.state.specs.Operation.{isWhole, modeOf, placeOf, map2Of, map4Of, interactionOf, kindIs, oneOf, twoOf, decodeOf, Fits}
+use Rattle.state.specs.declared.maps.Map2.{Map2}
+use Rattle.state.specs.declared.maps.Map4.{Map4}
+use Rattle.state.specs.declared.operation.Operation.{Operation}
+use Rattle.state.specs.declared.operation.Operation.the-variants.{One, Two}
+use Rattle.state.specs.declared.operation.Mode.{Mode}
+use Rattle.state.specs.declared.operation.Mode.the-variants.{At, Nowhere}
+use Rattle.state.specs.declared.operation.Decoded.the-variants.{Good, Bad}
+
+-- ---- modes below n
+
+pub fits-one : (n : ℕ) (o : Operation) (mode : ℕ) (q : Map2) → o ≡ One mode q → Fits n o → mode < n
+unfolding Fits
+fits-one n o mode q e f = rw e at f
+
+pub fits-two : (n : ℕ) (o : Operation) (mode : ℕ) (q : Map4) → o ≡ Two mode q → Fits n o → mode + 1 < n
+unfolding Fits
+fits-two n o mode q e f = rw e at f
+
+bad : (o : Operation) → Bad ≡ Good o → ⊥
+bad o e = let z : _≡_ {A = ℕ} 0 1 = cc in omega arith
+
+nowhere : (k : ℕ) → Nowhere ≡ At k → ⊥
+nowhere k e = let z : _≡_ {A = ℕ} 0 1 = cc in omega arith
+
+mode-below : (x : Float) (n k : ℕ) → modeOf x n ≡ At k → k < n
+unfolding modeOf
+mode-below x n k e = by (isWhole x) (ltb (toUnsigned 64 x) n) refl e
+  where
+    by : (s t : Bool) → ltb (toUnsigned 64 x) n ≡ t → cond s (cond t (At (toUnsigned 64 x)) Nowhere) Nowhere ≡ At k → k < n
+    by true true h e = let u : toUnsigned 64 x ≡ k = cc in omega (arith, ltb-true (toUnsigned 64 x) n h)
+    by true false h e = absurd (nowhere k e)
+    by false t h e = absurd (nowhere k e)
+
+one-fits : (n : ℕ) (s : List Float) (o : Operation) (m : Mode) → ((k : ℕ) → m ≡ At k → k < n) → oneOf s m ≡ Good o → Fits n o
+unfolding oneOf Fits
+one-fits n s o (At k) h e = let u : o ≡ One k (map2Of s) = cc in rw u (h k refl)
+one-fits n s o Nowhere h e = absurd (bad o e)
+
+two-fits : (n : ℕ) (s : List Float) (o : Operation) (m : Mode) → ((k : ℕ) → m ≡ At k → k + 1 < n) → twoOf s m ≡ Good o → Fits n o
+unfolding twoOf Fits
+two-fits n s o (At k) h e = let u : o ≡ Two k (map4Of s) = cc in rw u (h k refl)
+two-fits n s o Nowhere h e = absurd (bad o e)
+
+any-fits : (n : ℕ) (s : List Float) (o : Operation) → Good (interactionOf s) ≡ Good o → Fits n o
+unfolding Fits
+any-fits n s o e = let u : o ≡ interactionOf s = cc in rw u tt
+
+pub decode-fits : (n : ℕ) (s : List Float) (o : Operation) → decodeOf n s ≡ Good o → Fits n o
+unfolding decodeOf
+decode-fits n s o e =
+    by (ltb (length s) opPlaces) (kindIs s 0x3ff0_0000_0000_0000) (kindIs s 0x4000_0000_0000_0000) (eqb n 0) refl (kindIs s 0x4008_0000_0000_0000) e
+  where
+    by : (t k₁ k₂ z : Bool) → eqb n 0 ≡ z → (k₃ : Bool)
+        → cond t Bad (cond k₁ (oneOf s (modeOf (placeOf s 1) n)) (cond k₂ (cond z Bad (twoOf s (modeOf (placeOf s 1) (n - 1)))) (cond k₃ (Good
+        (interactionOf s)) Bad))) ≡ Good o
+        → Fits n o
+    by true k₁ k₂ z h k₃ e = absurd (bad o e)
+    by false true k₂ z h k₃ e = one-fits n s o (modeOf (placeOf s 1) n) (λ k g. mode-below (placeOf s 1) n k g) e
+    by false false true true h k₃ e = absurd (bad o e)
+    by false false true false h k₃ e =
+        two-fits n s o (modeOf (placeOf s 1) (n - 1)) (λ k g. omega (arith, mode-below (placeOf s 1) (n - 1) k g)) e
+    by false false false z h true e = any-fits n s o e
+    by false false false z h false e = absurd (bad o e)
+
+-- ---- a mode that was written as a float is read back: at each number below 128, by one test that antt computes
+
+left : (a b : Bool) → T (a && b) → T a
+left true b t = tt
+left false b t = t
+
+right : (a b : Bool) → T (a && b) → T b
+right true b t = t
+right false b t = absurd t
+
+is-true : (b : Bool) → T b → b ≡ true
+is-true true t = refl
+is-true false t = absurd t
+
+-- what a test of each number below n says of k
+each : (f : ℕ → Bool) (n k : ℕ) → T (allBelow f n) → k < n → T (f k)
+unfolding allBelow
+each f zero k t h = absurd (not-suc-le-zero h)
+each f (suc n) k t h =
+    ⊎-elim (λ (q : k ≡ n). subst (λ (m : ℕ). T (f m)) (sym q) (right (allBelow f n) (f n) t)) (λ (q : k < n). each f n k (left (allBelow f n)
+    (f n) t) q)
+    (eq-or-lt-of-le (le-of-suc-le-suc h))
+
+good : ℕ → Bool
+good k = isWhole (ofInt binary64 (pos k)) && eqb (toUnsigned 64 (ofInt binary64 (pos k))) k
+
+all-good : T (allBelow good maxQubits)
+unfolding allBelow good isWhole ofInt ofBits neg lt eq toUnsigned
+all-good = tt
+
+pub mode-back : (k n : ℕ) → k < n → n ≤ maxQubits → modeOf (ofInt binary64 (pos k)) n ≡ At k
+unfolding modeOf good
+mode-back k n h m =
+    let x = ofInt binary64 (pos k) in
+    let g = each good maxQubits k all-good (omega arith) in
+    let w : isWhole x ≡ true = is-true (isWhole x) (left (isWhole x) (eqb (toUnsigned 64 x) k) g) in
+    let e : toUnsigned 64 x ≡ k = eqb→eq (toUnsigned 64 x) k (right (isWhole x) (eqb (toUnsigned 64 x) k) g) in
+    rw (w, e, lt-ltb k n h)

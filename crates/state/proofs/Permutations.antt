@@ -1,0 +1,158 @@
+-- Laws of the mode table: a turn of the loop that marks the modes it has met; and of a permutation: every mode below n is the mode of exactly one
+-- qubit below n. Assumes nothing.
+use mathlib.Core.Path.{_≡_, refl, sym, ap, _∙_}
+use mathlib.Core.Logic.{_⊎_, inl, inr, _≢_}
+use mathlib.Core.Bool.{Bool, true, false, not, _&&_, false≢true}
+use mathlib.Core.List.{List, [], _∷_}
+use Prim.Native.Nat.{ℕ, zero, suc, _+_, _-_, _≤_, _<_}
+use native.Mathlib.Nat.{le-of-suc-le-suc, not-suc-le-zero, eq-or-lt-of-le, le-antisymm}
+use native.Mathlib.Numerals.{add-one}
+use native.Mathlib.Omega.{arith}
+use lib.Dec.{eqb, ltb, leb}
+use lib.ListN.{length, getD, set, length-set}
+use lib.Seq.{getD-set-same, getD-set-other}
+use borrow.Author.Tests.{eq-eqb, ne-eqb, lt-ltb, ltb-true, leb-true}
+use Rattle.laws.proofs.Cases.{lt-or-le, eq-or-ne}
+use Rattle.state.specs.Modes.{modeAt, allBelow, unused, modeOk, isPermutation}
+
+-- ---- a test of every number below n
+
+pub and-left : (a b : Bool) → a && b ≡ true → a ≡ true
+and-left true b e = refl
+and-left false b e = e
+
+pub and-right : (a b : Bool) → a && b ≡ true → b ≡ true
+and-right true b e = e
+and-right false b e = absurd (false≢true e)
+
+module _ (f : ℕ → Bool) where
+  -- of one of them
+  pub all-each : (n k : ℕ) → allBelow f n ≡ true → k < n → f k ≡ true
+  unfolding allBelow
+  all-each zero k t h = absurd (not-suc-le-zero h)
+  all-each (suc n) k t h = by (eq-or-lt-of-le (le-of-suc-le-suc h)) (λ q. all-each n k (and-left (allBelow f n) (f n) t) q)
+    where
+      by : (k ≡ n) ⊎ (k < n) → (k < n → f k ≡ true) → f k ≡ true
+      by (inl q) r = ap f q ∙ and-right (allBelow f n) (f n) t
+      by (inr q) r = r q
+
+  -- one more
+  pub all-more : (n : ℕ) → allBelow f n ≡ true → f n ≡ true → allBelow f (n + 1) ≡ true
+  unfolding allBelow
+  all-more n t e = rw (add-one, t, e)
+
+  -- one that fails is enough
+  pub all-fails : (n k : ℕ) → k < n → f k ≡ false → false ≡ allBelow f n
+  unfolding allBelow
+  all-fails zero k h e = absurd (not-suc-le-zero h)
+  all-fails (suc n) k h e = by (eq-or-lt-of-le (le-of-suc-le-suc h)) (λ q. all-fails n k q e)
+    where
+      last : (b : Bool) → false ≡ b && false
+      last true = refl
+      last false = refl
+
+      by : (k ≡ n) ⊎ (k < n) → (k < n → false ≡ allBelow f n) → false ≡ allBelow f n && f n
+      by (inl q) r = rw (ap f (sym q) ∙ e) (last (allBelow f n))
+      by (inr q) r = rw (← r q)
+
+-- ---- the marks: mode k is marked exactly if a qubit before q has it
+
+abbrev pub Marked : List ℕ → ℕ → List Bool → Type 0
+Marked l q seen = (k : ℕ) → k < length seen → getD seen k false ≡ not (unused l q k)
+
+-- a list with no mark, by a test that computes
+abbrev noneSet : List Bool → Bool
+noneSet [] = true
+noneSet (x ∷ l) = not x && noneSet l
+
+pub none-set : (l : List Bool) → noneSet l ≡ true → (k : ℕ) → getD l k false ≡ false
+none-set [] e k = refl
+none-set (x ∷ l) e zero = not-not x (and-left (not x) (noneSet l) e)
+  where
+    not-not : (x : Bool) → not x ≡ true → x ≡ false
+    not-not true e = sym e
+    not-not false e = refl
+none-set (x ∷ l) e (suc k) = none-set l (and-right (not x) (noneSet l) e) k
+
+pub marked-none : (l : List ℕ) (seen : List Bool) → ((k : ℕ) → getD seen k false ≡ false) → Marked l 0 seen
+unfolding allBelow
+marked-none l seen h k g = h k
+
+pub marked-more : (l : List ℕ) (q k : ℕ) (seen : List Bool) → k ≡ modeAt l q → Marked l q seen → Marked l (q + 1) (set seen k true)
+unfolding allBelow
+marked-more l q k seen e w j h = rw add-one (by (eq-or-ne j k))
+  where
+    here : (b : Bool) → true ≡ not (b && false)
+    here true = refl
+    here false = refl
+
+    there : (b : Bool) → not b ≡ not (b && true)
+    there true = refl
+    there false = refl
+
+    h′ : j < length seen
+    h′ = simp length-set at h
+
+    by : (j ≡ k) ⊎ (j ≢ k) → getD (set seen k true) j false ≡ not (unused l q j && not (eqb (modeAt l q) j))
+    by (inl f) =
+        rw (eq-eqb (modeAt l q) j (sym e ∙ sym f))
+        (ap (λ n. getD (set seen k true) n false) f ∙ getD-set-same seen k true false (omega (arith, h′)) ∙ here (unused l q j))
+    by (inr ne) =
+        rw (ne-eqb (modeAt l q) j (λ f. ne (sym f ∙ sym e))) (getD-set-other seen k j true false ne ∙ w j h′ ∙ there (unused l q j))
+
+not-true : (b : Bool) → true ≡ not b → b ≡ false
+not-true true e = e
+not-true false e = refl
+
+not-false : (b : Bool) → false ≡ not b → b ≡ true
+not-false true e = refl
+not-false false e = e
+
+-- what the mark of its mode says of qubit q
+module _ (n : ℕ) (l : List ℕ) (q k : ℕ) (seen : List Bool) (e : k ≡ modeAt l q) (w : Marked l q seen) (h : k < length seen) where
+  mark-here : getD seen k false ≡ not (unused l q (modeAt l q))
+  mark-here = w k h ∙ ap (λ j. not (unused l q j)) e
+
+  pub mark-used : getD seen k false ≡ true → modeOk n l q ≡ false
+  mark-used f = by (ltb (modeAt l q) n) (unused l q (modeAt l q)) (not-true (unused l q (modeAt l q)) (sym f ∙ mark-here))
+    where
+      by : (a b : Bool) → b ≡ false → a && b ≡ false
+      by true b e = e
+      by false b e = refl
+
+  pub mark-fresh : getD seen k false ≡ false → k < n → modeOk n l q ≡ true
+  mark-fresh f g =
+      let b : modeAt l q < n = omega arith in
+      rw (lt-ltb (modeAt l q) n b) (not-false (unused l q (modeAt l q)) (sym f ∙ mark-here))
+
+-- ---- a permutation
+
+not-eqb : (a b : ℕ) → not (eqb a b) ≡ true → a ≢ b
+not-eqb a b e q = absurd (false≢true (ap not (sym (eq-eqb a b q)) ∙ e))
+
+module _ (n : ℕ) (l : List ℕ) (p : isPermutation n l ≡ true) where
+  pub table-long : n ≤ length l
+  unfolding isPermutation
+  table-long = leb-true n (length l) (and-left (leb n (length l)) (allBelow (modeOk n l) n) p)
+
+  ok : (q : ℕ) → q < n → modeOk n l q ≡ true
+  unfolding isPermutation
+  ok q h = all-each (modeOk n l) n q (and-right (leb n (length l)) (allBelow (modeOk n l) n) p) h
+
+  -- a mode is below n
+  pub mode-below : (q : ℕ) → q < n → modeAt l q < n
+  mode-below q h = ltb-true (modeAt l q) n (and-left (ltb (modeAt l q) n) (unused l q (modeAt l q)) (ok q h))
+
+  earlier : (r q : ℕ) → r < q → q < n → modeAt l r ≢ modeAt l q
+  earlier r q h g =
+      not-eqb (modeAt l r) (modeAt l q)
+      (all-each (λ r. not (eqb (modeAt l r) (modeAt l q))) q r (and-right (ltb (modeAt l q) n) (unused l q (modeAt l q)) (ok q g)) h)
+
+  -- no two qubits have one mode
+  pub mode-one : (r q : ℕ) → r < n → q < n → modeAt l r ≡ modeAt l q → r ≡ q
+  mode-one r q h g e = by (lt-or-le r q) (lt-or-le q r)
+    where
+      by : (r < q) ⊎ (q ≤ r) → (q < r) ⊎ (r ≤ q) → r ≡ q
+      by (inl a) _ = absurd (earlier r q a g e)
+      by (inr _) (inl b) = absurd (earlier q r b h (sym e))
+      by (inr a) (inr b) = le-antisymm b a

@@ -1,0 +1,90 @@
+-- Laws of a map applied to the state in a slice: its phases, one after the other, are `step`, over the width of the map; and what `step` and `effect`
+-- read and make of rows below dim does not turn on the others. Assumes nothing.
+use mathlib.Core.Path.{_≡_, refl, sym}
+use mathlib.Core.Bool.{Bool, true, false, cond, _&&_}
+use mathlib.Core.List.{List, map}
+use Prim.Native.Nat.{ℕ, _+_, _*_, _-_, _≤_, _<_}
+use native.Mathlib.Omega.{arith}
+use lib.ListN.{length}
+use lib.Ieee.{Float, neg, lt}
+use Rattle.laws.specs.Zeros.{+0, +1, sg}
+use Rattle.laws.specs.Slices.{onPart}
+use Rattle.laws.specs.Matrix.{at, matrix}
+use Rattle.laws.specs.Maps.{Local, inside, rows, cols}
+use Rattle.laws.proofs.Maps.{rows-within, cols-within}
+use Rattle.state.specs.Bounds.{statePlaces, dimOf}
+use Rattle.state.specs.State.{State, stateAt, stored, Stored}
+use Rattle.state.specs.Apply.{later, unsettled, settled, calm, step}
+use Rattle.state.specs.Maps.{local2, local4}
+use Rattle.state.specs.Det.{odd}
+use Rattle.state.specs.Operation.{effect, applied, Fits}
+use Rattle.state.specs.Parts.{settledState}
+use Rattle.state.specs.declared.operation.Operation.{Operation}
+use Rattle.state.specs.declared.operation.Operation.the-variants.{One, Two, Interaction}
+use Rattle.state.proofs.Stored.{Alike, is-stored, stored-is, is-then, alike-is, read-back, matrix-step, turn-step}
+
+-- ---- the phases: settled, rows, columns, and the turn or none
+
+module _ (isOdd : Local → Bool) (o : Local) (dim : ℕ) (s₀ s₁ s₂ s₃ : List Float) (room : statePlaces dim ≤ length s₀)
+    (band : o .start + o .width ≤ dim)
+    (e₁ : s₁ ≡ stored dim (settledState o (stateAt dim s₀)) s₀) (e₂ : s₂ ≡ matrix dim (rows o (at dim s₁)) s₁) (e₃ : s₃ ≡ matrix dim (cols o
+    (at dim s₂)) s₂) where
+  moved : Stored dim s₀ (record { m = cols o (rows o (settled o (stateAt dim s₀))); d = calm o (stateAt dim s₀ .d) }) s₃
+  moved =
+      let w₁ = stored-is dim s₀ (settledState o (stateAt dim s₀)) s₁ room e₁ in
+      let w₂ = matrix-step dim s₀ s₁ s₂ (settledState o (stateAt dim s₀)) (rows o) room (rows-within o dim band) w₁ e₂ in
+      matrix-step dim s₀ s₂ s₃ _ (cols o) room (cols-within o dim band) w₂ e₃
+
+  pub step-turned : (s₄ : List Float) → isOdd o ≡ true → s₄ ≡ onPart (dim * dim + (o .start + o .width)) (dim - (o .start + o .width)) (map neg) s₃
+      → s₄ ≡ stored dim (step isOdd o (stateAt dim s₀)) s₀
+  step-turned s₄ b e =
+      is-stored dim s₀ (step isOdd o (stateAt dim s₀)) s₄ room
+      (alike-is dim s₀ _ (step isOdd o (stateAt dim s₀)) s₄ (turn-step dim (o .start + o .width) s₀ s₃ _ room band moved s₄ e) (record {
+        entries = λ r c h g. refl;
+        signs = λ i h. λ z. cond (sym b z && later o i) (neg (calm o (stateAt dim s₀ .d) i)) (calm o (stateAt dim s₀ .d) i);
+      }))
+
+  pub step-kept : isOdd o ≡ false → s₃ ≡ stored dim (step isOdd o (stateAt dim s₀)) s₀
+  step-kept b =
+      is-stored dim s₀ (step isOdd o (stateAt dim s₀)) s₃ room
+      (alike-is dim s₀ _ (step isOdd o (stateAt dim s₀)) s₃ moved (record {
+        entries = λ r c h g. refl;
+        signs = λ i h. λ z. cond (sym b z && later o i) (neg (calm o (stateAt dim s₀ .d) i)) (calm o (stateAt dim s₀ .d) i);
+      }))
+
+-- ---- states that agree on dim rows still do after a step
+
+module _ (isOdd : Local → Bool) (o : Local) (dim : ℕ) (band : o .start + o .width ≤ dim) (t u : State) (a : Alike dim t u) where
+  mark-alike : (i : ℕ) → i < dim → unsettled o (t .d) i ≡ unsettled o (u .d) i
+  mark-alike i h = λ z. inside o i && lt (a .signs i h z) +0
+
+  settled-alike : (r c : ℕ) → r < dim → c < dim → settled o t r c ≡ settled o u r c
+  settled-alike r c h g = λ z. sg (mark-alike r h z) (sg (mark-alike c g z) (a .entries r c h g z))
+
+  calm-alike : (i : ℕ) → i < dim → calm o (t .d) i ≡ calm o (u .d) i
+  calm-alike i h = λ z. cond (mark-alike i h z) +1 (a .signs i h z)
+
+  pub step-alike : Alike dim (step isOdd o t) (step isOdd o u)
+  step-alike = record {
+    entries = cols-within o dim band (rows o (settled o t)) (rows o (settled o u)) (rows-within o dim band (settled o t) (settled o u) settled-alike);
+    signs = λ i h. λ z. cond (isOdd o && later o i) (neg (calm-alike i h z)) (calm-alike i h z);
+  }
+
+pub effect-alike : (n : ℕ) (o : Operation) → Fits n o → (t u : State) → Alike (dimOf n) t u → Alike (dimOf n) (effect o t) (effect o u)
+unfolding effect Fits
+effect-alike n (One mode q) f t u a = step-alike odd (local2 (2 * mode) q) (dimOf n) (omega arith) t u a
+effect-alike n (Two mode q) f t u a = step-alike odd (local4 (2 * mode) q) (dimOf n) (omega arith) t u a
+effect-alike n (Interaction mode block second unit) f t u a = a
+
+-- ---- one operation after another: of the slices, so of the states
+
+pub applied-more : (n : ℕ) (o : Operation) (t : State) (s₀ s : List Float) → statePlaces (dimOf n) ≤ length s₀ → Fits n o
+    → s ≡ stored (dimOf n) t s₀ → applied n o s ≡ stored (dimOf n) (effect o t) s₀
+applied-more n o t s₀ s room f e =
+    let dim = dimOf n in
+    let w = stored-is dim s₀ t s room e in
+    let w′ = stored-is dim s (effect o (stateAt dim s)) (applied n o s) (omega (arith, w .long)) refl in
+    is-stored dim s₀ (effect o t) (applied n o s) room
+    (alike-is dim s₀ (effect o (stateAt dim s)) (effect o t) (applied n o s)
+    (is-then dim s₀ s (applied n o s) t (effect o (stateAt dim s)) w w′)
+    (effect-alike n o f (stateAt dim s) t (read-back dim s₀ t s w)))

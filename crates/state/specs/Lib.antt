@@ -1,0 +1,13 @@
+-- What the contracts of `state` speak of. Definitions only.
+pub mod Bounds
+pub mod State
+pub mod Maps
+pub mod Det
+pub mod Apply
+pub mod Operation
+pub mod Modes
+pub mod Answers
+pub mod Questions
+pub mod Calls
+-- of its inner functions
+pub mod Parts

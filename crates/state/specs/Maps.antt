@@ -1,0 +1,34 @@
+-- The maps of the code, row structs of floats, as functions of row and column with a width. Assumes nothing.
+use mathlib.Core.List.{[], _∷_}
+use Prim.Native.Nat.{ℕ, zero, suc}
+use lib.ListN.{getD}
+use lib.Ieee.{Float, nan}
+use Rattle.laws.specs.Matrix.{Mat}
+use Rattle.laws.specs.Maps.{Local}
+use Rattle.state.specs.declared.maps.Real2.{Real2}
+use Rattle.state.specs.declared.maps.Real4.{Real4}
+use Rattle.state.specs.declared.maps.Map2.{Map2}
+use Rattle.state.specs.declared.maps.Map4.{Map4}
+
+abbrev pub row2 : Real2 → ℕ → Float
+row2 v j = getD (v .x0 ∷ v .x1 ∷ []) j nan
+
+abbrev pub row4 : Real4 → ℕ → Float
+row4 v j = getD (v .x0 ∷ v .x1 ∷ v .x2 ∷ v .x3 ∷ []) j nan
+
+abbrev pub entry2 : Map2 → Mat
+entry2 q zero = row2 (q .r0)
+entry2 q (suc i) = row2 (q .r1)
+
+abbrev pub entry4 : Map4 → Mat
+entry4 q zero = row4 (q .r0)
+entry4 q (suc zero) = row4 (q .r1)
+entry4 q (suc (suc zero)) = row4 (q .r2)
+entry4 q (suc (suc (suc i))) = row4 (q .r3)
+
+-- a map on the indices from s on
+abbrev pub local2 : ℕ → Map2 → Local
+local2 s q = record { start = s; width = 2; map = entry2 q }
+
+abbrev pub local4 : ℕ → Map4 → Local
+local4 s q = record { start = s; width = 4; map = entry4 q }

@@ -1,0 +1,32 @@
+-- The mode table: entry q is the mode of qubit q. "The mode table's first n a permutation" (question 16). Definitions only.
+use mathlib.Core.Bool.{Bool, true, not, _&&_}
+use mathlib.Core.List.{List}
+use Prim.Native.Nat.{ℕ, zero, suc, _-_}
+use lib.Dec.{eqb, leb, ltb}
+use lib.ListN.{getD, length}
+use Rattle.laws.specs.Views.{seek}
+
+-- the mode of qubit q
+abbrev pub modeAt : List ℕ → ℕ → ℕ
+modeAt l q = getD l q 0
+
+-- f holds of every number below n
+unfoldable pub allBelow : (ℕ → Bool) → ℕ → Bool
+allBelow f zero = true
+allBelow f (suc n) = allBelow f n && f n
+
+-- no qubit before q has mode k
+abbrev pub unused : List ℕ → ℕ → ℕ → Bool
+unused l q k = allBelow (λ p. not (eqb (modeAt l p) k)) q
+
+-- the mode of qubit q is below n, and of no qubit before q
+abbrev pub modeOk : ℕ → List ℕ → ℕ → Bool
+modeOk n l q = ltb (modeAt l q) n && unused l q (modeAt l q)
+
+-- the first n entries are a permutation of 0, 1, .., n - 1: there are n, each is below n, and no two are equal
+unfoldable pub isPermutation : ℕ → List ℕ → Bool
+isPermutation n l = leb n (length l) && allBelow (modeOk n l) n
+
+-- the qubit of mode k
+abbrev pub qubitAt : ℕ → List ℕ → ℕ → ℕ
+qubitAt n l k = seek (λ q. eqb (modeAt l q) k) n - 1

@@ -1,0 +1,61 @@
+// An operation applied to the state.
+
+ghost use mathlib.Core.Path.{_≡_};
+ghost use Rattle.state.specs.Operation.{decodeOf, applied, Fits};
+ghost use Rattle.state.specs.Answers.{done};
+ghost use Rattle.state.specs.Calls.{decodedAnswer, decodedState, applyAnswer, applyState};
+ghost use Rattle.state.specs.Parts.{HasState};
+use super::answer::Applied;
+use super::answer::Refusal;
+use super::check::state_ok;
+use super::local::apply_local2;
+use super::local::apply_local4;
+use super::operation::Decoded;
+use super::operation::Operation;
+use super::operation::decode;
+
+// By its cases, to a state of n qubits.
+pub fn apply_operation(n: usize, state: &mut [f64], o: Operation)
+    requires { ⌜ HasState (now state) n ⌝ }
+    requires { ⌜ Fits n o ⌝ }
+    ensures { λ _. ⌜ now (state .exit) ≡ applied n o (now (state .entry)) ⌝ }
+{
+    match o {
+        Operation::One { mode, q } => apply_local2(state, 2 * n, 2 * mode, q),
+        Operation::Two { mode, q } => apply_local4(state, 2 * n, 2 * mode, q),
+        Operation::Interaction {
+            mode: _,
+            block: _,
+            second: _,
+            unit: _,
+        } => {}
+    }
+}
+
+// From its places, to a state of n qubits: question 17.
+pub fn apply_places(n: usize, state: &mut [f64], op: &[f64]) -> Applied
+    requires { ⌜ HasState (now state) n ⌝ }
+    ensures answer { λ r. ⌜ done r ≡ decodedAnswer (decodeOf n (now (op .entry))) ⌝ }
+    ensures state { λ _. ⌜ now (state .exit) ≡ decodedState n (now (state .entry)) (decodeOf n (now (op .entry))) ⌝ }
+{
+    let d = decode(n, op);
+    match d {
+        Decoded::Good(o) => {
+            apply_operation(n, state, o);
+            Applied::Done
+        }
+        Decoded::Bad => Applied::Refused(Refusal::BadOperation),
+    }
+}
+
+// The operation in `op` is applied to the state of n qubits: questions 16 and 17. A refusal changes
+// nothing.
+pub fn apply(n: usize, state: &mut [f64], modes: &[u16], op: &[f64]) -> Applied
+    ensures answer { λ r. ⌜ done r ≡ applyAnswer n (now (state .entry)) (now (modes .entry)) (now (op .entry)) ⌝ }
+    ensures state { λ _. ⌜ now (state .exit) ≡ applyState n (now (state .entry)) (now (modes .entry)) (now (op .entry)) ⌝ }
+{
+    if state_ok(n, state, modes) {
+        return apply_places(n, state, op);
+    }
+    Applied::Refused(Refusal::BadState)
+}

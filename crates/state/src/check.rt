@@ -1,0 +1,72 @@
+// Question 16: what every state call asks first.
+
+ghost use mathlib.Core.Path.{_≡_};
+ghost use Prim.Native.Nat.{_≤_, _<_};
+ghost use lib.ListN.{length};
+ghost use Rattle.state.specs.Bounds.{maxQubits};
+ghost use Rattle.state.specs.Modes.{modeAt, allBelow, modeOk, isPermutation};
+ghost use Rattle.state.specs.Questions.{stateOk};
+ghost use Rattle.state.specs.Parts.{NoMarks};
+
+const MAX_QUBITS: usize = 128;
+
+fn wide(x: u16) -> usize
+    ensures { λ r. ⌜ r ≡ x ⌝ }
+{
+    x as usize
+}
+
+// The mode of qubit q.
+pub fn mode_at(modes: &[u16], q: usize) -> usize
+    requires { ⌜ q < length (now modes) ⌝ }
+    ensures { λ r. ⌜ r ≡ modeAt (now (modes .entry)) q ⌝ }
+{
+    wide(modes[q])
+}
+
+// Each of the first n entries is below n, and no two are equal. The modes met so far are marked.
+fn each_once(n: usize, modes: &[u16], seen: &mut [bool]) -> bool
+    requires { ⌜ n ≤ length (now modes) ⌝ }
+    requires { ⌜ NoMarks (now seen) n ⌝ }
+    ensures { λ r. ⌜ r ≡ allBelow (modeOk n (now (modes .entry))) n ⌝ }
+{
+    let mut q = 0;
+    while q < n {
+        let k = mode_at(modes, q);
+        if k >= n {
+            return false;
+        }
+        if seen[k] {
+            return false;
+        }
+        seen[k] = true;
+        q += 1;
+    }
+    true
+}
+
+// The first n entries of the mode table are a permutation.
+fn is_permutation(n: usize, modes: &[u16]) -> bool
+    requires { ⌜ n ≤ maxQubits ⌝ }
+    ensures { λ r. ⌜ r ≡ isPermutation n (now (modes .entry)) ⌝ }
+{
+    if modes.len() < n {
+        return false;
+    }
+    let mut seen = [false; MAX_QUBITS];
+    each_once(n, modes, &mut seen)
+}
+
+// n is at most 128, the slice long enough, the mode table a permutation.
+pub fn state_ok(n: usize, state: &[f64], modes: &[u16]) -> bool
+    ensures { λ r. ⌜ r ≡ stateOk n (now (state .entry)) (now (modes .entry)) ⌝ }
+{
+    if n > MAX_QUBITS {
+        return false;
+    }
+    let dim = 2 * n;
+    if state.len() < dim * dim + dim {
+        return false;
+    }
+    is_permutation(n, modes)
+}

@@ -1,0 +1,43 @@
+// A map applied to the state: 001's `apply_local`, two and four wide. m becomes Q m Qᵀ on the map's
+// indices, and where the determinant is below zero the sign of every later index turns.
+
+ghost use mathlib.Core.Path.{_≡_};
+ghost use Rattle.state.specs.State.{stateAt, stored};
+ghost use Rattle.state.specs.Maps.{local2, local4};
+ghost use Rattle.state.specs.Det.{odd};
+ghost use Rattle.state.specs.Apply.{step};
+ghost use Rattle.state.specs.Parts.{HasBand};
+use super::columns::columns2;
+use super::columns::columns4;
+use super::det::det2;
+use super::det::det4;
+use super::maps::Map2;
+use super::maps::Map4;
+use super::rows::rows2;
+use super::rows::rows4;
+use super::signs::settle;
+use super::signs::turn_from;
+
+pub fn apply_local2(state: &mut [f64], dim: usize, s: usize, q: Map2)
+    requires { ⌜ HasBand (now state) dim s 2 ⌝ }
+    ensures { λ _. ⌜ now (state .exit) ≡ stored dim (step odd (local2 s q) (stateAt dim (now (state .entry)))) (now (state .entry)) ⌝ }
+{
+    settle(state, dim, s, 2);
+    rows2(state, dim, s, q);
+    columns2(state, dim, s, q);
+    if det2(q) < 0.0 {
+        turn_from(state, dim, s + 2);
+    }
+}
+
+pub fn apply_local4(state: &mut [f64], dim: usize, s: usize, q: Map4)
+    requires { ⌜ HasBand (now state) dim s 4 ⌝ }
+    ensures { λ _. ⌜ now (state .exit) ≡ stored dim (step odd (local4 s q) (stateAt dim (now (state .entry)))) (now (state .entry)) ⌝ }
+{
+    settle(state, dim, s, 4);
+    rows4(state, dim, s, q);
+    columns4(state, dim, s, q);
+    if det4(q) < 0.0 {
+        turn_from(state, dim, s + 4);
+    }
+}

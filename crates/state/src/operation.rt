@@ -1,0 +1,156 @@
+// Operations, 001's `GaussOp`, and how they are read from their 18 places.
+
+ghost use mathlib.Core.Path.{_≡_};
+ghost use Prim.Native.Nat.{_+_, _≤_};
+ghost use lib.ListN.{length};
+ghost use Rattle.state.specs.Bounds.{opPlaces};
+ghost use Rattle.state.specs.Operation.{modeOf, real2Of, real4Of, map2Of, map4Of, interactionOf, decodeOf};
+use super::maps::Map2;
+use super::maps::Map4;
+use super::maps::Real2;
+use super::maps::Real4;
+
+const OP_PLACES: usize = 18; // places of an operation
+
+// The unit of an interaction's phase.
+pub struct Unit {
+    pub re: f64,
+    pub im: f64,
+}
+
+pub enum Operation {
+    One {
+        mode: usize,
+        q: Map2,
+    },
+    Two {
+        mode: usize,
+        q: Map4,
+    },
+    Interaction {
+        mode: f64,
+        block: f64,
+        second: f64,
+        unit: Unit,
+    },
+}
+
+pub enum Decoded {
+    Good(Operation),
+    Bad,
+}
+
+pub enum Mode {
+    At(usize),
+    Nowhere,
+}
+
+// The whole number from 0 and below n that x is.
+pub fn mode_of(x: f64, n: usize) -> Mode
+    ensures { λ r. ⌜ r ≡ modeOf x n ⌝ }
+{
+    if x > -1.0 {
+        if x < 18446744073709551616.0 {
+            let k = std::num::truncating_f64_to_u64(x);
+            if std::num::nearest_u64_to_f64(k) == x {
+                let i = k as usize;
+                if i < n {
+                    return Mode::At(i);
+                }
+            }
+        }
+    }
+    Mode::Nowhere
+}
+
+fn real2_at(s: &[f64], at: usize) -> Real2
+    requires { ⌜ at + 2 ≤ length (now s) ⌝ }
+    ensures { λ r. ⌜ r ≡ real2Of (now (s .entry)) at ⌝ }
+{
+    Real2 {
+        x0: s[at],
+        x1: s[at + 1],
+    }
+}
+
+fn real4_at(s: &[f64], at: usize) -> Real4
+    requires { ⌜ at + 4 ≤ length (now s) ⌝ }
+    ensures { λ r. ⌜ r ≡ real4Of (now (s .entry)) at ⌝ }
+{
+    Real4 {
+        x0: s[at],
+        x1: s[at + 1],
+        x2: s[at + 2],
+        x3: s[at + 3],
+    }
+}
+
+fn map2_at(s: &[f64]) -> Map2
+    requires { ⌜ opPlaces ≤ length (now s) ⌝ }
+    ensures { λ r. ⌜ r ≡ map2Of (now (s .entry)) ⌝ }
+{
+    let r0 = real2_at(s, 2);
+    let r1 = real2_at(s, 4);
+    Map2 { r0, r1 }
+}
+
+fn map4_at(s: &[f64]) -> Map4
+    requires { ⌜ opPlaces ≤ length (now s) ⌝ }
+    ensures { λ r. ⌜ r ≡ map4Of (now (s .entry)) ⌝ }
+{
+    let r0 = real4_at(s, 2);
+    let r1 = real4_at(s, 6);
+    let r2 = real4_at(s, 10);
+    let r3 = real4_at(s, 14);
+    Map4 { r0, r1, r2, r3 }
+}
+
+fn interaction_at(s: &[f64]) -> Operation
+    requires { ⌜ opPlaces ≤ length (now s) ⌝ }
+    ensures { λ r. ⌜ r ≡ interactionOf (now (s .entry)) ⌝ }
+{
+    let unit = Unit { re: s[4], im: s[5] };
+    Operation::Interaction {
+        mode: s[1],
+        block: s[2],
+        second: s[3],
+        unit,
+    }
+}
+
+// The operation on n modes in the first places of s. An interaction's mode is not questioned.
+pub fn decode(n: usize, s: &[f64]) -> Decoded
+    ensures { λ r. ⌜ r ≡ decodeOf n (now (s .entry)) ⌝ }
+{
+    if s.len() < OP_PLACES {
+        return Decoded::Bad;
+    }
+    let kind = s[0];
+    if kind == 1.0 {
+        let found = mode_of(s[1], n);
+        return match found {
+            Mode::At(mode) => Decoded::Good(Operation::One {
+                mode,
+                q: map2_at(s),
+            }),
+            Mode::Nowhere => Decoded::Bad,
+        };
+    }
+    if kind == 2.0 {
+        if n == 0 {
+            return Decoded::Bad;
+        }
+        let found = mode_of(s[1], n - 1);
+        return match found {
+            Mode::At(mode) => Decoded::Good(Operation::Two {
+                mode,
+                q: map4_at(s),
+            }),
+            Mode::Nowhere => Decoded::Bad,
+        };
+    }
+    if kind == 3.0 {
+        return Decoded::Good(interaction_at(s));
+    }
+    Decoded::Bad
+}
