@@ -1,0 +1,19 @@
+-- The sign theorem, from tables of Paulis up to the engine. Assumes nothing.
+pub mod Tables
+pub mod Strings
+pub mod Permutations
+pub mod JordanWigner
+pub mod Values
+pub mod Expectations
+pub mod Pairs
+pub mod Determinants
+pub mod Steps
+pub mod Runs
+pub mod Products
+pub mod Pfaffians
+pub mod Parities
+pub mod ZProducts
+pub mod Signs
+pub mod Gates
+pub mod Rows
+pub mod Refused
