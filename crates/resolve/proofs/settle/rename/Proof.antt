@@ -1,0 +1,24 @@
+-- `resolve::settle::rename` meets its contract: both wires are read before one is written.
+-- Assumes nothing.
+use mathlib.Core.Path.{_≡_, refl, sym, ap, ap₂, _∙_}
+use native.Mathlib.Omega.{arith}
+use Rattle.resolve.specs.Slots.{tradedMarks}
+use Rattle.work.proofs.Records.{put-size}
+use borrow.Author.Needs.{needs}
+use Rattle.resolve.proofs.settle.rename.Statement.{statement}
+use Rattle.resolve.proofs.settle.rename.Tie as tie
+
+returns : tie.Need-returns
+unfolding tradedMarks
+returns c = rw (c .before .before .put-mark2 .ensures, c .before .before .before .before .before .before .put-mark .ensures, c .before .before .before .before .before .before .before .before .mark2 .ensures, c .before .before .before .before .before .before .before .before .before .before .mark .ensures)
+
+pub rename-spec : {M : Type 1} → statement M
+rename-spec =
+    tie.close
+    (tie.spec
+    (λ c κs. search needs)
+    (λ c κs. search needs)
+    (λ c κs. search needs)
+    (λ c κs. search needs)
+    (λ c. search needs)
+    returns)
