@@ -1,14 +1,14 @@
 -- The edges of the queries, rows under one theorem: no qubits, a qubit listed twice, a contradiction whatever follows it, and no modes at all.
 -- Assumes nothing.
-use mathlib.Core.Path.{_≡_, refl, sym, ap, _∙_}
+use mathlib.Core.Path.{_≡_, refl, ap, _∙_}
 use mathlib.Core.Logic.{_≢_}
 use mathlib.Core.Bool.{Bool, true, false, not, cond}
 use mathlib.Core.List.{List, [], _∷_}
-use Prim.Native.Nat.{ℕ, zero, suc, _*_, _≤_, _<_, zero-le}
+use Prim.Native.Nat.{ℕ, suc, _<_, zero-le}
 use native.Mathlib.Omega.{arith}
 use lib.Count.{trailingZeros}
-use lib.Dec.{eqb, leb, ltb}
-use lib.ListN.{length, getD}
+use lib.Dec.{eqb, ltb}
+use lib.ListN.{length}
 use lib.Ieee.{Float, binary64, mul, sum, round, units, odd, size, climb, span, lt}
 use borrow.Author.Tests.{le-leb, lt-leb, lt-ltb, eq-eqb, ne-eqb}
 use Rattle.laws.specs.Zeros.{+0, +1, sg}
@@ -18,7 +18,7 @@ use Rattle.pfaffian.proofs.Examples as pfaffian
 use Rattle.state.specs.Modes.{modeAt, allBelow}
 use Rattle.state.specs.Questions.{stateOk}
 use Rattle.state.specs.Answers.{Told, accepted}
-use Rattle.queries.specs.Lists.{firstFrom, oddly, badPlace, oddModes, noted, bitsOk, stopPlace, asked, notedModes, outside, modeListed, bitListed}
+use Rattle.queries.specs.Lists.{firstFrom, oddly, badPlace, oddModes, noted, bitsOk, stopPlace, asked, notedModes}
 use Rattle.queries.specs.Products.{dimLeft, restricted, productOf}
 use Rattle.queries.specs.Marginals.{askedMatrix, atLeastZeroOf, markedOf}
 use Rattle.queries.specs.Basis.{basisMark}

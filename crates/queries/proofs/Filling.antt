@@ -1,15 +1,15 @@
 -- Laws of a matrix that is laid into work: a whole one, row by row; halved entries; a pair of entries a turn; and that matrices which are alike have
 -- the same Pfaffian. Assumes nothing.
-use mathlib.Core.Path.{_≡_, refl, sym, ap, _∙_}
+use mathlib.Core.Path.{_≡_, refl, sym, _∙_}
 use mathlib.Core.Logic.{_⊎_, inl, inr, _≢_}
-use mathlib.Core.Bool.{Bool, true, false, cond, _&&_}
+use mathlib.Core.Bool.{false, _&&_}
 use mathlib.Core.List.{List}
 use Prim.Native.Nat.{ℕ, _+_, _*_, _/_, _%_, _≤_, _<_}
 use native.Mathlib.Nat.{le-of-eq}
 use native.Mathlib.Omega.{arith}
 use lib.Dec.{eqb}
 use lib.ListN.{length, getD, set, length-set}
-use lib.Ieee.{Float, nan, binary64, add, sub, mul}
+use lib.Ieee.{Float, nan, binary64, add, sub}
 use borrow.Author.Tests.{eq-eqb, ne-eqb}
 use Rattle.laws.specs.Slices.{mappedTo}
 use Rattle.laws.specs.Matrix.{Mat, at, matrix, Is}
@@ -18,7 +18,7 @@ use Rattle.laws.specs.Loops.{upTo, byRow, byCol}
 use Rattle.laws.proofs.Cases.{eq-or-ne}
 use Rattle.laws.proofs.Slices.{length-mapped, mapped-done, mapped-left}
 use Rattle.laws.proofs.Matrix.{place-in, is-matrix, matrix-is, at-set-same, at-set-other, after-set}
-use Rattle.laws.proofs.Loops.{more, up-left, none, all}
+use Rattle.laws.proofs.Loops.{more, up-left}
 use Rattle.laws.proofs.Sweep.{Swept, masked-on, sweep-start, sweep-store, sweep-row, sweep-done}
 use Rattle.state.specs.Bounds.{maxQubits}
 use Rattle.queries.specs.Products.{indexOf}

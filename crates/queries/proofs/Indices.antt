@@ -2,12 +2,12 @@
 -- Assumes nothing.
 use mathlib.Core.Path.{_≡_, refl, sym, ap, _∙_}
 use mathlib.Core.Logic.{_≢_}
-use mathlib.Core.Bool.{Bool, true, false, cond, _&&_, _||_}
+use mathlib.Core.Bool.{Bool, true, false, cond, _||_}
 use mathlib.Core.List.{List}
-use Prim.Native.Nat.{ℕ, zero, suc, _-_, _/_, _%_, _^_, _≤_, _<_}
+use Prim.Native.Nat.{ℕ, zero, suc, _-_, _≤_, _<_}
 use native.Mathlib.Nat.{le-refl}
 use native.Mathlib.Omega.{arith}
-use lib.Dec.{eqb, leb, ltb}
+use lib.Dec.{leb, ltb}
 use lib.ListN.{length, getD}
 use lib.Ieee.{Float}
 use borrow.Author.Tests.{eq-eqb, le-leb, lt-leb, le-ltb}
@@ -17,7 +17,7 @@ use Rattle.state.specs.Modes.{modeAt, allBelow, isPermutation}
 use Rattle.state.specs.Questions.{stateOk}
 use Rattle.state.proofs.Permutations.{mode-one}
 use Rattle.state.proofs.Questions as questions
-use Rattle.queries.specs.Lists.{firstFrom, first, outside, modeListed, bitListed, noted, contradicts, bitsOk, stopPlace, asked}
+use Rattle.queries.specs.Lists.{outside, modeListed, bitListed, noted, contradicts, bitsOk, stopPlace, asked}
 use Rattle.queries.specs.Basis.{wordBits, wordBit, basisBitOf, basisMark}
 use Rattle.queries.specs.Calls.{covarianceOf, probabilityOf, probabilityWork, marginalProbabilityOf, marginalProbabilityWork}
 use Rattle.queries.proofs.Searches.{first-all}
@@ -98,7 +98,8 @@ module _ (n low high : ℕ) where
     unfolding probabilityOf marginalProbabilityOf
     basis-is-marginal = by (stateOk n s modes) refl
       where
-        by : (t : Bool) → stateOk n s modes ≡ t → probabilityOf n s modes low high w ≡ marginalProbabilityOf n s modes (allQubits n) (basisBits n low high) w
+        by : (t : Bool) → stateOk n s modes ≡ t
+            → probabilityOf n s modes low high w ≡ marginalProbabilityOf n s modes (allQubits n) (basisBits n low high) w
         by true e =
             let p = questions.asked n s modes e .permutation in
             rw (e, bits-fine, reads-all modes p) (answer-alike n _ _ (marks-alike modes p) (covarianceOf n s) w)

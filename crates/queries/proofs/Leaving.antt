@@ -1,6 +1,6 @@
--- Laws of the modes left: their matrix by an array in which they are listed, its Pfaffian and the work it leaves; question 20; and marks that are alike
--- give the same probability. Assumes nothing.
-use mathlib.Core.Path.{_≡_, refl, sym, ap, _∙_}
+-- Laws of the modes left: their matrix by an array in which they are listed, its Pfaffian and the work it leaves; question 20; and marks that are
+-- alike give the same probability. Assumes nothing.
+use mathlib.Core.Path.{_≡_, ap, _∙_}
 use mathlib.Core.Bool.{true, false, cond, _&&_}
 use mathlib.Core.List.{List}
 use Prim.Native.Nat.{ℕ, _+_, _*_, _/_, _%_, _≤_, _<_}
@@ -16,11 +16,11 @@ use Rattle.laws.proofs.Matrix.{is-matrix, matrix-is, is-then, filled-is}
 use Rattle.pfaffian.specs.Pfaffian.{pfaffianOf}
 use Rattle.pfaffian.specs.Shot.{half}
 use Rattle.pfaffian.proofs.Congruent.{pfaffian-same}
-use Rattle.queries.specs.Lists.{oddly, notedModes}
-use Rattle.queries.specs.Products.{indexOf, restricted, dimLeft}
+use Rattle.queries.specs.Lists.{notedModes}
+use Rattle.queries.specs.Products.{restricted, dimLeft}
 use Rattle.queries.specs.Marginals.{isOne, halfSpinOf, shifted, halved, askedMatrix, signOf, atLeastZeroOf, markedOf}
 use Rattle.queries.specs.Calls.{workOk, cleared, markedAnswer, markedWork, worked, workedWork}
-use Rattle.queries.specs.Inner.{Marked, Listed}
+use Rattle.queries.specs.Inner.{Listed}
 use Rattle.queries.proofs.Searches.{odd-same, passing-same, passing-ascends}
 use Rattle.queries.proofs.Filling.{mapped-is}
 

@@ -2,7 +2,7 @@
 use mathlib.Core.Path.{_≡_, refl, sym, ap, _∙_}
 use mathlib.Core.Logic.{_⊎_, inl, inr, _≢_}
 use mathlib.Core.Bool.{Bool, true, false, not, cond, _&&_}
-use mathlib.Core.List.{List, [], _∷_}
+use mathlib.Core.List.{List}
 use Prim.Native.Nat.{ℕ, zero, suc, _+_, _-_, _*_, _≤_, _<_}
 use native.Mathlib.Numerals.{add-one}
 use native.Mathlib.Omega.{arith}
@@ -10,12 +10,13 @@ use lib.Dec.{eqb, leb, ltb}
 use lib.ListN.{length, getD, set, length-set, replicate, length-replicate, getD-replicate}
 use lib.Seq.{getD-set-same, getD-set-other}
 use borrow.Author.Tests.{eq-eqb, ne-eqb, eqb-true, lt-ltb, leb-true}
-use Rattle.laws.proofs.Cases.{eq-or-ne, lt-or-le}
+use Rattle.laws.proofs.Cases.{eq-or-ne}
 use Rattle.pfaffian.specs.Shot.{bit}
-use Rattle.state.specs.Bounds.{maxQubits}
-use Rattle.state.specs.Modes.{modeAt, allBelow}
+use Rattle.state.specs.Bounds.{maxQubits, dimOf}
+use Rattle.state.proofs.Questions.{square-few}
+use Rattle.state.specs.Modes.{allBelow}
 use Rattle.state.proofs.Permutations.{and-left, and-right, all-each}
-use Rattle.queries.specs.Lists.{oddly, passing, oddModes, modeListed, oddMode, noted, conflictsOf, contradicts, bitsOk, notedModes}
+use Rattle.queries.specs.Lists.{oddModes, modeListed, oddMode, noted, conflictsOf, contradicts, bitsOk, notedModes}
 use Rattle.queries.specs.Inner.{Marked, Listed, Modes}
 use Rattle.queries.proofs.Searches.{odd-on, odd-off, passing-same, passing-ascends}
 
@@ -31,9 +32,6 @@ marked-set n f g marks k x h w e o = record {
     by : (j : ℕ) → j < n → (j ≡ k) ⊎ (j ≢ k) → getD (set marks k x) j 0 ≡ g j
     by j l (inl q) = ap (λ i. getD (set marks k x) i 0) q ∙ getD-set-same marks k x 0 (omega (arith, w .long)) ∙ e ∙ ap g (sym q)
     by j l (inr q) = getD-set-other marks k j x 0 q ∙ w .each j l ∙ sym (o j q)
-
-pub marked-same : (n : ℕ) (f g : ℕ → ℕ) (marks : List ℕ) → ((k : ℕ) → f k ≡ g k) → Marked n f marks → Marked n g marks
-marked-same n f g marks e w = record { long = w .long; each = λ k h. w .each k h ∙ e k }
 
 -- at first no mark is set
 pub marked-none : (n : ℕ) → n ≤ maxQubits → Marked n (λ k. 0) (replicate maxQubits 0)
@@ -140,10 +138,6 @@ bits-asked qs bits e =
 
 -- ---- the modes left
 
--- marks that are alike leave the same modes
-pub noted-same : (n : ℕ) (f : ℕ → ℕ) (marks : List ℕ) → Marked n f marks → notedModes n (λ k. getD marks k 0) ≡ notedModes n f
-noted-same n f marks w = passing-same _ _ n (λ k h. ap (ltb 0) (w .each k h))
-
 pub odd-left : (n : ℕ) (modes qs : List ℕ) (place : ℕ) (marks : List ℕ) → place ≡ length qs → Marked n (λ k. bit (oddMode modes qs place k)) marks
     → notedModes n (λ k. getD marks k 0) ≡ oddModes n modes qs
 unfolding oddModes
@@ -162,3 +156,7 @@ listed-modes n m f count array more w = record {
 
 pub listed-few : (n : ℕ) (f : ℕ → ℕ) (count : ℕ) (array : List ℕ) → Listed (notedModes n f) count array → count ≤ n
 listed-few n f count array w = omega (arith, w .size, passing-ascends (λ k. ltb 0 (f k)) n .few)
+
+pub listed-square : (n : ℕ) (f : ℕ → ℕ) (count : ℕ) (array : List ℕ) → n ≤ maxQubits → Listed (notedModes n f) count array
+    → 2 * count * (2 * count) ≤ dimOf maxQubits * dimOf maxQubits
+listed-square n f count array few w = square-few count (omega (arith, listed-few n f count array w))

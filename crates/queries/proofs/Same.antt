@@ -1,13 +1,13 @@
 -- Covariances that are equal up to the sign of a zero give the same answers: products up to that sign, marginals and shots exactly. Assumes nothing.
 use mathlib.Core.Path.{_≡_, refl, sym, ap, _∙_}
-use mathlib.Core.Bool.{Bool, true, false, cond, _&&_}
+use mathlib.Core.Bool.{false, cond, _&&_}
 use mathlib.Core.List.{List}
-use Prim.Native.Nat.{ℕ, zero, suc, _+_, _*_, _/_, _%_, _≤_, _<_}
+use Prim.Native.Nat.{ℕ, zero, suc, _+_, _*_, _/_, _%_, _<_}
 use native.Mathlib.Omega.{arith}
 use lib.Dec.{eqb, ltb}
 use lib.ListN.{length, getD}
 use lib.Ieee.{Float, nan, inf, fin, binary64, add, sub, mul, lt}
-use Rattle.laws.specs.Zeros.{+0, +1, nz}
+use Rattle.laws.specs.Zeros.{+0, nz}
 use Rattle.laws.specs.Matrix.{Mat}
 use Rattle.laws.proofs.Zeros.{lt-nz, add-cong, sub-cong, mul-cong, cond-cong}
 use Rattle.laws.proofs.Views.{up-same}
@@ -20,7 +20,7 @@ use Rattle.queries.specs.Lists.{passing, oddMode, oddModes, notedModes}
 use Rattle.queries.specs.Products.{indexOf, restricted, dimLeft, productOf}
 use Rattle.queries.specs.Marginals.{halfSpinOf, halved, askedMatrix, signOf, atLeastZeroOf, markedOf}
 use Rattle.queries.specs.Samples.{shotAt, wordAt, sampled}
-use Rattle.queries.proofs.Searches.{Ascending, passing-ascends}
+use Rattle.queries.proofs.Searches.{passing-ascends}
 
 -- zero, if it is not above zero
 none-below : lt +0 +0 ≡ false
@@ -83,7 +83,8 @@ module _ (e e′ : Mat) (n : ℕ) (h : Alike nz 0 (2 * n) e e′) where
   pub shot-at-cong : (modes : List ℕ) (draws : List Float) (i : ℕ) → shotAt e n modes draws i ≡ shotAt e′ n modes draws i
   shot-at-cong modes draws i = shot-cong e e′ n (drawFrom draws (i * n)) (modeOf modes) h
 
-  pub sampled-cong : (modes : List ℕ) (shots : ℕ) (draws : List Float) (out : List ℕ) → sampled e n modes shots draws out ≡ sampled e′ n modes shots draws out
+  pub sampled-cong : (modes : List ℕ) (shots : ℕ) (draws : List Float) (out : List ℕ)
+      → sampled e n modes shots draws out ≡ sampled e′ n modes shots draws out
   unfolding sampled
   sampled-cong modes shots draws out =
       up-same _ _ 0 (length out)

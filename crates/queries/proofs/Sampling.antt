@@ -2,18 +2,15 @@
 -- Assumes nothing.
 use mathlib.Core.Path.{_≡_, refl, sym, ap, _∙_}
 use mathlib.Core.Logic.{_⊎_, inl, inr, _≢_}
-use mathlib.Core.Bool.{cond}
 use mathlib.Core.List.{List}
 use Prim.Native.Nat.{ℕ, suc, _+_, _*_, _/_, _%_, _≤_, _<_}
 use native.Mathlib.Nat.{not-suc-le-zero, suc-mul, mul-comm, mul-le-mul-left, mul-le-mul-right, le-trans}
 use native.Mathlib.Numerals.{add-one}
 use native.Mathlib.Omega.{arith}
-use lib.Dec.{eqb, ltb}
 use lib.ListN.{length, getD, set, length-set}
 use lib.Seq.{ext-getD, getD-set-same, getD-set-other}
 use lib.Ieee.{Float}
 use borrow.Author.Tests.{eq-eqb, ne-eqb, lt-ltb, le-ltb}
-use Rattle.laws.specs.Views.{listOf}
 use Rattle.laws.specs.Matrix.{Mat, at, matrix}
 use Rattle.laws.proofs.Cases.{eq-or-ne, lt-or-le}
 use Rattle.laws.proofs.Views.{length-listOf, getD-listOf}
@@ -62,14 +59,12 @@ module _ (W : ℕ → Words) where
   written-none out = record { long = refl; done = λ j h. absurd (not-suc-le-zero h); left = λ j h. refl }
 
   low-word : (i : ℕ) → outWord (2 * i) ≡ W i .low
-
   low-word i =
       let q : 2 * i / 2 ≡ i = omega arith in
       let z : 2 * i % 2 ≡ 0 = omega arith in
       rw (q, eq-eqb (2 * i % 2) 0 z)
 
   high-word : (i : ℕ) → outWord (2 * i + 1) ≡ W i .high
-
   high-word i =
       let q : (2 * i + 1) / 2 ≡ i = omega arith in
       let z : (2 * i + 1) % 2 ≢ 0 = λ e. omega arith in
@@ -113,7 +108,8 @@ pub written-all : (e : Mat) (n : ℕ) (modes : List ℕ) (shots : ℕ) (draws : 
     → Written (shotAt e n modes draws) i out₀ out → out ≡ sampled e n modes shots draws out₀
 unfolding sampled
 written-all e n modes shots draws i out₀ out h g v =
-    ext-getD 0 out (sampled e n modes shots draws out₀) (v .long ∙ sym (length-listOf _ _)) (λ j b. one j (rw (v .long) at b) (lt-or-le j (2 * shots)))
+    ext-getD 0 out (sampled e n modes shots draws out₀) (v .long ∙ sym (length-listOf _ _)) (λ j b. one j (rw (v .long) at b)
+    (lt-or-le j (2 * shots)))
   where
     one : (j : ℕ) → j < length out₀ → (j < 2 * shots) ⊎ (2 * shots ≤ j) → getD out j 0 ≡ getD (sampled e n modes shots draws out₀) j 0
     one j b (inl k) = rw (getD-listOf {A = ℕ} _ _ j 0 b, lt-ltb j (2 * shots) k) (v .done j (omega arith))

@@ -42,17 +42,24 @@ workedWork dim w = cond (workOk dim w) (cleared dim w) w
 
 -- ---- products: questions 16, 19 and 20
 
+-- of the modes left: question 20
+abbrev pub productAnswer : Mat → List ℕ → List Float → Told
+productAnswer e l w = worked (dimLeft l) (productOf e l) w
+
+abbrev pub productWork : List ℕ → List Float → List Float
+productWork l w = workedWork (dimLeft l) w
+
 unfoldable pub expectationZProductOf : ℕ → List Float → List ℕ → List ℕ → List Float → Told
 expectationZProductOf n s modes qs w =
     let place = badPlace n qs in
     let l = oddModes n modes qs in
     cond (stateOk n s modes)
-    (cond (ltb place (length qs)) (refused 19 place) (worked (dimLeft l) (productOf (covarianceOf n s) l) w))
+    (cond (ltb place (length qs)) (refused 19 place) (productAnswer (covarianceOf n s) l w))
     (refused 16 0)
 
 unfoldable pub expectationZProductWork : ℕ → List Float → List ℕ → List ℕ → List Float → List Float
 expectationZProductWork n s modes qs w =
-    cond (stateOk n s modes) (cond (ltb (badPlace n qs) (length qs)) w (workedWork (dimLeft (oddModes n modes qs)) w)) w
+    cond (stateOk n s modes) (cond (ltb (badPlace n qs) (length qs)) w (productWork (oddModes n modes qs) w)) w
 
 -- of two qubits
 abbrev pub zCorrelationOf : ℕ → List Float → List ℕ → ℕ → ℕ → List Float → Told

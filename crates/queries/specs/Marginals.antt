@@ -1,5 +1,5 @@
--- The probability that modes read their bits (001, `marginal_probability`): 0.5 · m, with 0.5 added and taken away in each mode's pair of entries; the
--- Pfaffian with the sign of the bits' parity; never below zero. What is asked of a mode is its mark: 0 nothing, else one more than the bit.
+-- The probability that modes read their bits (001, `marginal_probability`): 0.5 · m, with 0.5 added and taken away in each mode's pair of entries;
+-- the Pfaffian with the sign of the bits' parity; never below zero. What is asked of a mode is its mark: 0 nothing, else one more than the bit.
 -- Definitions only.
 use mathlib.Core.Bool.{Bool, cond, _&&_}
 use mathlib.Core.List.{List}

@@ -2,21 +2,19 @@
 
 ghost use mathlib.Core.Path.{_≡_};
 ghost use mathlib.Core.Bool.{true};
-ghost use Prim.Native.Nat.{suc, _≤_, _<_, _/_, _%_, _^_};
-ghost use lib.ListN.{length};
+ghost use Prim.Native.Nat.{suc, _≤_, _<_, _%_};
 ghost use Rattle.state.specs.Bounds.{maxQubits};
 ghost use Rattle.state.specs.Modes.{isPermutation};
 ghost use Rattle.state.specs.Answers.{told};
 ghost use Rattle.queries.specs.Basis.{wordBits, wordBit, basisBitOf, basisMark};
 ghost use Rattle.queries.specs.Calls.{probabilityOf, probabilityWork};
 ghost use Rattle.queries.specs.Inner.{Marked};
+use super::lists::MAX_QUBITS;
 use super::marginals::marked_probability;
 use state::answer::Answer;
 use state::answer::Refusal;
 use state::check::mode_at;
 use state::check::state_ok;
-
-const MAX_QUBITS: usize = 128;
 
 const WORD_BITS: usize = 64;
 
@@ -65,7 +63,14 @@ fn note_basis(n: usize, modes: &[u16], low: u64, high: u64, marks: &mut [u8])
 }
 
 // The probability of the basis index with the given words: questions 16 and 20. Bits from n upward are ignored.
-pub fn probability(n: usize, state: &[f64], modes: &[u16], low: u64, high: u64, work: &mut [f64]) -> Answer
+pub fn probability(
+    n: usize,
+    state: &[f64],
+    modes: &[u16],
+    low: u64,
+    high: u64,
+    work: &mut [f64],
+) -> Answer
     ensures answer { λ r. ⌜ told r ≡ probabilityOf n (now (state .entry)) (now (modes .entry)) low high (now (work .entry)) ⌝ }
     ensures work { λ _. ⌜ now (work .exit) ≡ probabilityWork n (now (state .entry)) (now (modes .entry)) low high (now (work .entry)) ⌝ }
 {

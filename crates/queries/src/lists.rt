@@ -2,14 +2,16 @@
 
 ghost use mathlib.Core.Path.{_≡_};
 ghost use mathlib.Core.Bool.{true};
-ghost use Prim.Native.Nat.{ℕ, _≤_, _<_};
+ghost use Prim.Native.Nat.{_≤_, _<_};
 ghost use lib.Dec.{ltb};
-ghost use lib.ListN.{length, getD};
+ghost use lib.ListN.{length};
 ghost use Rattle.pfaffian.specs.Shot.{bit};
 ghost use Rattle.state.specs.Modes.{isPermutation};
 ghost use Rattle.queries.specs.Lists.{badPlace, oddMode, conflictsOf, bitsOk, bitListed, modeListed, stopPlace, noted, notedModes};
-ghost use Rattle.queries.specs.Inner.{Marked, Listed};
+ghost use Rattle.queries.specs.Inner.{Marked, markAt, Listed};
 use state::check::mode_at;
+
+pub const MAX_QUBITS: usize = 128;
 
 // The modes of odd count are marked 1. The answer is the place of the first qubit that is not below n, or the list's length; the marks
 // are those of the places before it.
@@ -69,7 +71,8 @@ pub fn note_bits(n: usize, modes: &[u16], qubits: &[usize], bits: &[u8], marks: 
     requires { ⌜ bitsOk (now qubits) (now bits) ≡ true ⌝ }
     requires { ⌜ Marked n (λ k. 0) (now marks) ⌝ }
     ensures place { λ r. ⌜ r ≡ stopPlace n (now (modes .entry)) (now (qubits .entry)) (now (bits .entry)) ⌝ }
-    ensures marks { λ r. ⌜ Marked n (noted (modeListed (now (modes .entry)) (now (qubits .entry))) (bitListed (now (bits .entry))) r) (now (marks .exit)) ⌝ }
+    ensures marks { λ r. ⌜ Marked n (noted (modeListed (now (modes .entry)) (now (qubits .entry))) (bitListed (now (bits .entry))) r)
+        (now (marks .exit)) ⌝ }
 {
     let mut i = 0;
     while i < qubits.len() {
@@ -99,7 +102,7 @@ fn step(mark: u8) -> usize
 pub fn list_modes(marks: &[u8], n: usize, list: &mut [usize]) -> usize
     requires { ⌜ n ≤ length (now marks) ⌝ }
     requires { ⌜ n ≤ length (now list) ⌝ }
-    ensures { λ r. ⌜ Listed (notedModes n (λ k. getD (now (marks .entry)) k 0)) r (now (list .exit)) ⌝ }
+    ensures { λ r. ⌜ Listed (notedModes n (markAt (now (marks .entry)))) r (now (list .exit)) ⌝ }
 {
     let mut count = 0;
     let mut k = 0;

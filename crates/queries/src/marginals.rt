@@ -3,12 +3,13 @@
 ghost use mathlib.Core.Path.{_≡_};
 ghost use mathlib.Core.Bool.{cond, not};
 ghost use Prim.Native.Nat.{_≤_, _<_};
-ghost use lib.ListN.{length, getD};
+ghost use lib.ListN.{length};
 ghost use Rattle.state.specs.Answers.{told};
 ghost use Rattle.queries.specs.Lists.{oddly};
 ghost use Rattle.queries.specs.Marginals.{isOne, signOf, atLeastZeroOf};
 ghost use Rattle.queries.specs.Calls.{covarianceOf, stoppedOf, markedAnswer, markedWork, marginalProbabilityOf, marginalProbabilityWork};
-ghost use Rattle.queries.specs.Inner.{Ready};
+ghost use Rattle.queries.specs.Inner.{markAt, Ready};
+use super::lists::MAX_QUBITS;
 use super::lists::bits_ok;
 use super::lists::list_modes;
 use super::lists::note_bits;
@@ -17,8 +18,6 @@ use super::matrices::pfaffian_cleared;
 use state::answer::Answer;
 use state::answer::Refusal;
 use state::check::state_ok;
-
-const MAX_QUBITS: usize = 128;
 
 // A mode that is asked for a one turns the parity.
 fn turned(odd: bool, mark: u8) -> bool
@@ -30,7 +29,7 @@ fn turned(odd: bool, mark: u8) -> bool
 // The modes asked for a one are odd in number.
 fn odd_ones(marks: &[u8], n: usize) -> bool
     requires { ⌜ n ≤ length (now marks) ⌝ }
-    ensures { λ r. ⌜ r ≡ oddly (λ k. isOne (getD (now (marks .entry)) k 0)) n ⌝ }
+    ensures { λ r. ⌜ r ≡ oddly (λ k. isOne (markAt (now (marks .entry)) k)) n ⌝ }
 {
     let mut odd = false;
     let mut k = 0;
@@ -44,7 +43,7 @@ fn odd_ones(marks: &[u8], n: usize) -> bool
 // -1.0 for an odd number of ones, else 1.0.
 fn sign(marks: &[u8], n: usize) -> f64
     requires { ⌜ n ≤ length (now marks) ⌝ }
-    ensures { λ r. ⌜ r ≡ signOf n (λ k. getD (now (marks .entry)) k 0) ⌝ }
+    ensures { λ r. ⌜ r ≡ signOf n (markAt (now (marks .entry))) ⌝ }
 {
     if odd_ones(marks, n) { -1.0 } else { 1.0 }
 }
@@ -60,8 +59,8 @@ fn at_least_zero(x: f64) -> f64
 pub fn marked_probability(n: usize, state: &[f64], marks: &[u8], work: &mut [f64]) -> Answer
     requires { ⌜ Ready n (now state) ⌝ }
     requires { ⌜ n ≤ length (now marks) ⌝ }
-    ensures answer { λ r. ⌜ told r ≡ markedAnswer (covarianceOf n (now (state .entry))) n (λ k. getD (now (marks .entry)) k 0) (now (work .entry)) ⌝ }
-    ensures work { λ _. ⌜ now (work .exit) ≡ markedWork n (λ k. getD (now (marks .entry)) k 0) (now (work .entry)) ⌝ }
+    ensures answer { λ r. ⌜ told r ≡ markedAnswer (covarianceOf n (now (state .entry))) n (markAt (now (marks .entry))) (now (work .entry)) ⌝ }
+    ensures work { λ _. ⌜ now (work .exit) ≡ markedWork n (markAt (now (marks .entry))) (now (work .entry)) ⌝ }
 {
     let mut list = [0; MAX_QUBITS];
     let count = list_modes(marks, n, &mut list);
@@ -86,9 +85,18 @@ fn stopped(n: usize, qubits: &[usize], place: usize) -> Answer
 }
 
 // The probability that the listed qubits read their bits: questions 16, 18, 19 and 20.
-pub fn marginal_probability(n: usize, state: &[f64], modes: &[u16], qubits: &[usize], bits: &[u8], work: &mut [f64]) -> Answer
-    ensures answer { λ r. ⌜ told r ≡ marginalProbabilityOf n (now (state .entry)) (now (modes .entry)) (now (qubits .entry)) (now (bits .entry)) (now (work .entry)) ⌝ }
-    ensures work { λ _. ⌜ now (work .exit) ≡ marginalProbabilityWork n (now (state .entry)) (now (modes .entry)) (now (qubits .entry)) (now (bits .entry)) (now (work .entry)) ⌝ }
+pub fn marginal_probability(
+    n: usize,
+    state: &[f64],
+    modes: &[u16],
+    qubits: &[usize],
+    bits: &[u8],
+    work: &mut [f64],
+) -> Answer
+    ensures answer { λ r. ⌜ told r ≡ marginalProbabilityOf n (now (state .entry)) (now (modes .entry)) (now (qubits .entry))
+        (now (bits .entry)) (now (work .entry)) ⌝ }
+    ensures work { λ _. ⌜ now (work .exit) ≡ marginalProbabilityWork n (now (state .entry)) (now (modes .entry)) (now (qubits .entry))
+        (now (bits .entry)) (now (work .entry)) ⌝ }
 {
     if state_ok(n, state, modes) {
         if bits_ok(qubits, bits) {

@@ -1,19 +1,18 @@
 // The covariance of the modes left, read from the state into work, and the Pfaffian of what stands there.
 
 ghost use mathlib.Core.Path.{_≡_};
-ghost use Prim.Native.Nat.{ℕ, _+_, _*_, _/_, _≤_, _<_};
-ghost use lib.ListN.{length, getD, set};
-ghost use lib.Ieee.{binary64, add, sub, mul};
+ghost use Prim.Native.Nat.{_+_, _*_, _/_, _≤_, _<_};
+ghost use lib.ListN.{length, getD};
+ghost use lib.Ieee.{binary64, mul};
 ghost use Rattle.laws.specs.Slices.{mappedTo};
 ghost use Rattle.laws.specs.Matrix.{at, matrix, Inside, Holds};
-ghost use Rattle.laws.specs.Steps.{masked, inRow};
 ghost use Rattle.pfaffian.specs.Pfaffian.{pfaffianOf};
 ghost use Rattle.pfaffian.specs.Shot.{half};
 ghost use Rattle.state.specs.Bounds.{maxQubits};
 ghost use Rattle.queries.specs.Products.{indexOf, restricted};
-ghost use Rattle.queries.specs.Marginals.{halfSpinOf, shifted, askedMatrix};
+ghost use Rattle.queries.specs.Marginals.{halfSpinOf, askedMatrix};
 ghost use Rattle.queries.specs.Calls.{covarianceOf, cleared};
-ghost use Rattle.queries.specs.Inner.{Ready, Modes, everywhere};
+ghost use Rattle.queries.specs.Inner.{markAt, Ready, Modes, rowLaid, pairShifted, pairsShifted};
 use pfaffian::entry;
 use pfaffian::put;
 use state::expectation::covariance;
@@ -33,7 +32,7 @@ fn restrict_row(state: &[f64], n: usize, list: &[usize], work: &mut [f64], dim: 
     requires { ⌜ Ready n (now state) ⌝ }
     requires { ⌜ Modes n dim (now list) ⌝ }
     requires { ⌜ Inside (now work) dim r r ⌝ }
-    ensures { λ _. ⌜ now (work .exit) ≡ matrix dim (masked (inRow r everywhere) (restricted (covarianceOf n (now (state .entry))) (now (list .entry))) (at dim (now (work .entry)))) (now (work .entry)) ⌝ }
+    ensures { λ _. ⌜ now (work .exit) ≡ rowLaid dim r (restricted (covarianceOf n (now (state .entry))) (now (list .entry))) (now (work .entry)) ⌝ }
 {
     let x = index(list, r);
     let mut c = 0;
@@ -81,7 +80,7 @@ fn half_spin(mark: u8) -> f64
 // The pair of entries at a and a + 1.
 fn shift_pair(work: &mut [f64], dim: usize, a: usize, s: f64)
     requires { ⌜ Holds (now work) dim a 2 ⌝ }
-    ensures { λ _. ⌜ now (work .exit) ≡ set (set (now (work .entry)) (a * dim + (a + 1)) (add binary64 (at dim (now (work .entry)) a (a + 1)) s)) ((a + 1) * dim + a) (sub binary64 (at dim (now (work .entry)) (a + 1) a) s) ⌝ }
+    ensures { λ _. ⌜ now (work .exit) ≡ pairShifted dim a s (now (work .entry)) ⌝ }
 {
     let x = entry(work, dim, a, a + 1);
     let y = entry(work, dim, a + 1, a);
@@ -93,7 +92,7 @@ fn shift_pair(work: &mut [f64], dim: usize, a: usize, s: f64)
 fn shift_pairs(work: &mut [f64], list: &[usize], count: usize, marks: &[u8])
     requires { ⌜ 2 * count * (2 * count) ≤ length (now work) ⌝ }
     requires { ⌜ Modes (length (now marks)) (2 * count) (now list) ⌝ }
-    ensures { λ _. ⌜ now (work .exit) ≡ matrix (2 * count) (shifted (λ j. halfSpinOf (getD (now (marks .entry)) (getD (now (list .entry)) j 0) 0)) (at (2 * count) (now (work .entry)))) (now (work .entry)) ⌝ }
+    ensures { λ _. ⌜ now (work .exit) ≡ pairsShifted (2 * count) (now (marks .entry)) (now (list .entry)) (now (work .entry)) ⌝ }
 {
     let dim = 2 * count;
     let mut j = 0;
@@ -111,7 +110,8 @@ pub fn ask(state: &[f64], n: usize, list: &[usize], count: usize, marks: &[u8], 
     requires { ⌜ Modes n (2 * count) (now list) ⌝ }
     requires { ⌜ Modes (length (now marks)) (2 * count) (now list) ⌝ }
     requires { ⌜ 2 * count * (2 * count) ≤ length (now work) ⌝ }
-    ensures { λ _. ⌜ now (work .exit) ≡ matrix (2 * count) (askedMatrix (covarianceOf n (now (state .entry))) (λ k. getD (now (marks .entry)) k 0) (now (list .entry))) (now (work .entry)) ⌝ }
+    ensures { λ _. ⌜ now (work .exit) ≡ matrix (2 * count) (askedMatrix (covarianceOf n (now (state .entry))) (markAt (now (marks .entry)))
+        (now (list .entry))) (now (work .entry)) ⌝ }
 {
     let dim = 2 * count;
     restrict(state, n, list, work, dim);

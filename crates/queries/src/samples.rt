@@ -1,18 +1,16 @@
 // Shots of every qubit.
 
 ghost use mathlib.Core.Path.{_≡_};
-ghost use Prim.Native.Nat.{ℕ, _+_, _*_, _≤_, _<_};
-ghost use lib.ListN.{length, getD};
-ghost use Rattle.laws.specs.Matrix.{at, matrix, Inside};
-ghost use Rattle.laws.specs.Steps.{masked, inRow};
+ghost use Prim.Native.Nat.{_+_, _*_, _≤_, _<_};
+ghost use lib.ListN.{length};
+ghost use Rattle.laws.specs.Matrix.{matrix, Inside};
 ghost use Rattle.pfaffian.specs.Work.{Kept};
-ghost use Rattle.state.specs.Bounds.{maxQubits};
 ghost use Rattle.state.specs.State.{stateAt, get};
 ghost use Rattle.state.specs.Answers.{done};
 ghost use Rattle.state.specs.Parts.{HasEntry};
 ghost use Rattle.queries.specs.Samples.{drawOkOf, badDrawOf, sampled};
 ghost use Rattle.queries.specs.Calls.{covarianceOf, shotsOf, shotsOut, sampleOf, sampleWork, sampleOut};
-ghost use Rattle.queries.specs.Inner.{Ready, everywhere};
+ghost use Rattle.queries.specs.Inner.{Ready, rowLaid};
 use pfaffian::entry;
 use pfaffian::put;
 use pfaffian::shot;
@@ -27,7 +25,7 @@ const MAX_SHOTS: usize = 65536;
 fn copy_row(state: &[f64], work: &mut [f64], dim: usize, r: usize)
     requires { ⌜ HasEntry (now state) dim r r ⌝ }
     requires { ⌜ Inside (now work) dim r r ⌝ }
-    ensures { λ _. ⌜ now (work .exit) ≡ matrix dim (masked (inRow r everywhere) (get (stateAt dim (now (state .entry)))) (at dim (now (work .entry)))) (now (work .entry)) ⌝ }
+    ensures { λ _. ⌜ now (work .exit) ≡ rowLaid dim r (get (stateAt dim (now (state .entry)))) (now (work .entry)) ⌝ }
 {
     let signs = dim * dim;
     let d = state[signs + r];
@@ -80,12 +78,21 @@ fn bad_draw(draws: &[f64], used: usize) -> usize
 }
 
 // All shots, each from the covariance anew, with its two words at its place of the output.
-fn take_shots(n: usize, state: &[f64], modes: &[u16], shots: usize, draws: &[f64], work: &mut [f64], out: &mut [u64])
+fn take_shots(
+    n: usize,
+    state: &[f64],
+    modes: &[u16],
+    shots: usize,
+    draws: &[f64],
+    work: &mut [f64],
+    out: &mut [u64],
+)
     requires { ⌜ Ready n (now state) ⌝ }
     requires { ⌜ n ≤ length (now modes) ⌝ }
     requires { ⌜ 2 * n * (2 * n) ≤ length (now work) ⌝ }
     requires { ⌜ (n * shots ≤ length (now draws)) × (2 * shots ≤ length (now out)) ⌝ }
-    ensures out { λ _. ⌜ now (out .exit) ≡ sampled (covarianceOf n (now (state .entry))) n (now (modes .entry)) shots (now (draws .entry)) (now (out .entry)) ⌝ }
+    ensures out { λ _. ⌜ now (out .exit) ≡ sampled (covarianceOf n (now (state .entry))) n (now (modes .entry)) shots (now (draws .entry))
+        (now (out .entry)) ⌝ }
     ensures kept { λ _. ⌜ Kept (2 * n) (now (work .entry)) (now (work .exit)) ⌝ }
 {
     let mut first = 0;
@@ -101,12 +108,21 @@ fn take_shots(n: usize, state: &[f64], modes: &[u16], shots: usize, draws: &[f64
 }
 
 // Questions 21 and 22, then the shots.
-fn sample_worked(n: usize, state: &[f64], modes: &[u16], shots: usize, draws: &[f64], work: &mut [f64], out: &mut [u64]) -> Applied
+fn sample_worked(
+    n: usize,
+    state: &[f64],
+    modes: &[u16],
+    shots: usize,
+    draws: &[f64],
+    work: &mut [f64],
+    out: &mut [u64],
+) -> Applied
     requires { ⌜ Ready n (now state) ⌝ }
     requires { ⌜ n ≤ length (now modes) ⌝ }
     requires { ⌜ 2 * n * (2 * n) ≤ length (now work) ⌝ }
     ensures answer { λ r. ⌜ done r ≡ shotsOf n shots (now (draws .entry)) (now (out .entry)) ⌝ }
-    ensures out { λ _. ⌜ now (out .exit) ≡ shotsOut (covarianceOf n (now (state .entry))) n (now (modes .entry)) shots (now (draws .entry)) (now (out .entry)) ⌝ }
+    ensures out { λ _. ⌜ now (out .exit) ≡ shotsOut (covarianceOf n (now (state .entry))) n (now (modes .entry)) shots (now (draws .entry))
+        (now (out .entry)) ⌝ }
     ensures kept { λ _. ⌜ Kept (2 * n) (now (work .entry)) (now (work .exit)) ⌝ }
 {
     if shots > MAX_SHOTS {
@@ -128,10 +144,20 @@ fn sample_worked(n: usize, state: &[f64], modes: &[u16], shots: usize, draws: &[
 }
 
 // Shots of the state, from the draws in their order: questions 16, 20, 21 and 22. The output is two words a shot, low first.
-pub fn sample(n: usize, state: &[f64], modes: &[u16], shots: usize, draws: &[f64], work: &mut [f64], out: &mut [u64]) -> Applied
-    ensures answer { λ r. ⌜ done r ≡ sampleOf n (now (state .entry)) (now (modes .entry)) shots (now (draws .entry)) (now (work .entry)) (now (out .entry)) ⌝ }
+pub fn sample(
+    n: usize,
+    state: &[f64],
+    modes: &[u16],
+    shots: usize,
+    draws: &[f64],
+    work: &mut [f64],
+    out: &mut [u64],
+) -> Applied
+    ensures answer { λ r. ⌜ done r ≡ sampleOf n (now (state .entry)) (now (modes .entry)) shots (now (draws .entry)) (now (work .entry))
+        (now (out .entry)) ⌝ }
     ensures work { λ _. ⌜ now (work .exit) ≡ sampleWork n (now (state .entry)) (now (modes .entry)) (now (work .entry)) ⌝ }
-    ensures out { λ _. ⌜ now (out .exit) ≡ sampleOut n (now (state .entry)) (now (modes .entry)) shots (now (draws .entry)) (now (work .entry)) (now (out .entry)) ⌝ }
+    ensures out { λ _. ⌜ now (out .exit) ≡ sampleOut n (now (state .entry)) (now (modes .entry)) shots (now (draws .entry))
+        (now (work .entry)) (now (out .entry)) ⌝ }
 {
     if state_ok(n, state, modes) {
         let dim = 2 * n;

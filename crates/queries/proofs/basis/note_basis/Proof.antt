@@ -1,5 +1,5 @@
 -- `queries::basis::note_basis` meets its contract: the marks are those of the qubits passed, no two of which have one mode. Assumes nothing.
-use mathlib.Core.Path.{_≡_, refl, sym, ap, _∙_}
+use mathlib.Core.Path.{_≡_, ap, _∙_}
 use mathlib.Core.Logic.{_≢_}
 use Prim.Native.Nat.{ℕ, suc, _-_, _≤_, _<_}
 use native.Mathlib.Omega.{arith}
@@ -44,7 +44,8 @@ loop-again c =
     let free : (j : ℕ) → j < l .q → modeAt (e .args .modes .now) j ≢ modeAt (e .args .modes .now) (l .q) =
     λ j g q. let z : j ≡ l .q = mode-one (e .args .n) (e .args .modes .now) (e .pre .1 .0) j (l .q) (omega arith) h q in omega arith in (
       simp length-set (omega arith),
-      note-turn (modeAt (e .args .modes .now)) (basisBitOf (e .args .low) (e .args .high)) (e .args .n) (l .marks) (l .q) (m .mode-at .result) _ (below m)
+      note-turn (modeAt (e .args .modes .now)) (basisBitOf (e .args .low) (e .args .high)) (e .args .n) (l .marks) (l .q)
+          (m .mode-at .result) _ (below m)
           (m .mode-at .ensures) (none-contradicts (modeAt (e .args .modes .now)) (basisBitOf (e .args .low) (e .args .high)) (l .q) free)
           (c .mark-of .ensures ∙ ap suc (c .before .basis-bit .ensures .0)) (l .inv .1),
     )
@@ -59,4 +60,18 @@ returns c =
     rw z at (l .inv .1)
 
 pub note-basis-spec : {M : Type 1} → statement M
-note-basis-spec = tie.close (tie.spec Inv-loop μ-loop loop-holds mode-at-requires (λ c κs. search needs) (λ c κs. search needs) slice-write-marks (λ c. omega arith) (λ c. omega arith) loop-again same-length returns)
+note-basis-spec =
+    tie.close
+    (tie.spec
+    Inv-loop
+    μ-loop
+    loop-holds
+    mode-at-requires
+    (λ c κs. search needs)
+    (λ c κs. search needs)
+    slice-write-marks
+    (λ c. omega arith)
+    (λ c. omega arith)
+    loop-again
+    same-length
+    returns)

@@ -1,11 +1,6 @@
 -- `queries::basis::probability` meets its contract, by its questions. Assumes nothing.
-use mathlib.Core.Path.{_≡_, refl, sym, ap, _∙_}
-use Prim.Native.Nat.{ℕ, _*_, _≤_, _<_}
-use native.Mathlib.Omega.{arith}
+use mathlib.Core.Path.{sym, _∙_}
 use borrow.Author.Needs.{needs}
-use borrow.Author.Tests.{lt-ltb, le-ltb}
-use lib.ListN.{length, getD}
-
 use Rattle.state.specs.Answers.{told, refusal}
 use Rattle.state.proofs.Questions.{Asked, asked}
 use Rattle.queries.specs.Basis.{basisMark}
@@ -37,7 +32,8 @@ returns c =
     let m = c .before .before .before .before .before .before .note-basis .ensures .each in
     let r = c .before .before .marked-probability .ensures in
     let f = basisMark (e .n) (e .modes .now) (e .low) (e .high) in (
-      rw (← o, c .before .before .before .before .before .before .before .before .if1 .taken) (r .0 ∙ answer-alike (e .n) _ f m (covarianceOf (e .n) (e .state .now)) (e .work .now)),
+      rw (← o, c .before .before .before .before .before .before .before .before .if1 .taken) (r .0 ∙ answer-alike (e .n) _ f m (covarianceOf
+          (e .n) (e .state .now)) (e .work .now)),
       rw (← o, c .before .before .before .before .before .before .before .before .if1 .taken) (r .1 ∙ work-alike (e .n) _ f m (e .work .now)),
     )
 
@@ -48,4 +44,14 @@ returns-2 c =
     (rw (← o, c .if1 .left), rw (← o, c .if1 .left))
 
 pub probability-spec : {M : Type 1} → statement M
-probability-spec = tie.close (tie.spec (λ c κs. tt) (λ c. search needs) note-basis-requires (λ c. search needs) marked-probability-requires (λ c. search needs) returns returns-2)
+probability-spec =
+    tie.close
+    (tie.spec
+    (λ c κs. tt)
+    (λ c. search needs)
+    note-basis-requires
+    (λ c. search needs)
+    marked-probability-requires
+    (λ c. search needs)
+    returns
+    returns-2)

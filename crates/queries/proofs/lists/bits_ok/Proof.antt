@@ -51,4 +51,16 @@ returns-3 c =
     rw (eq-eqb _ _ (c .before .before .if1 .left)) (sym (l .inv .1) ∙ ap (allBelow (λ j. leb (getD (e .args .bits .now) j 0) 1)) all)
 
 pub bits-ok-spec : {M : Type 1} → statement M
-bits-ok-spec = tie.close (tie.spec Inv-loop μ-loop returns loop-holds (λ c. omega arith) returns-2 (λ c. omega arith) (λ c. omega arith) loop-again returns-3)
+bits-ok-spec =
+    tie.close
+    (tie.spec
+    Inv-loop
+    μ-loop
+    returns
+    loop-holds
+    (λ c. omega arith)
+    returns-2
+    (λ c. omega arith)
+    (λ c. omega arith)
+    loop-again
+    returns-3)

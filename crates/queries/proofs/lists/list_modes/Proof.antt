@@ -1,13 +1,13 @@
 -- `queries::lists::list_modes` meets its contract: the modes passed are listed. Assumes nothing.
-use mathlib.Core.Path.{_≡_, refl, ap, _∙_}
+use mathlib.Core.Path.{_≡_}
 use Prim.Native.Nat.{_-_, _≤_}
 use native.Mathlib.Omega.{arith}
 use borrow.Author.Needs.{needs}
 use lib.Dec.{ltb}
 use lib.ListN.{length, getD, length-set}
-use Rattle.queries.specs.Lists.{passing, notedModes}
+use Rattle.queries.specs.Lists.{notedModes}
 use Rattle.queries.specs.Inner.{Listed}
-use Rattle.queries.proofs.Searches.{passing-ascends, listed-none, listed-more}
+use Rattle.queries.proofs.Searches.{listed-none, listed-more}
 use Rattle.queries.proofs.Marking.{bit-small}
 use Rattle.queries.proofs.lists.list_modes.Statement.{statement}
 use Rattle.queries.proofs.lists.list_modes.Tie as tie
@@ -23,7 +23,12 @@ loop-holds : tie.Need-loop-holds Inv-loop μ-loop
 loop-holds c = (omega arith, listed-none (λ j. ltb 0 (getD (c .before .before .args .marks .now) j 0)) _)
 
 add-count : tie.Need-add-count Inv-loop μ-loop
-add-count c = omega (arith, c .step .ensures, bit-small (ltb 0 (getD (c .before .before .before .before .before .before .args .marks .now) (c .before .before .before .loop .k) 0)))
+add-count c = omega (
+  arith,
+  c .step .ensures,
+  bit-small (ltb 0 (getD (c .before .before .before .before .before .before .args .marks .now)
+      (c .before .before .before .loop .k) 0)),
+)
 
 loop-again : tie.Need-loop-again Inv-loop μ-loop
 loop-again c =
@@ -43,4 +48,19 @@ returns c =
     rw z at (l .inv .1)
 
 pub list-modes-spec : {M : Type 1} → statement M
-list-modes-spec = tie.close (tie.spec Inv-loop μ-loop loop-holds (λ c. omega arith) (λ c. omega arith) (λ c. omega arith) (λ c κs. search needs) add-count (λ c. omega arith) (λ c. omega arith) loop-again same-length returns)
+list-modes-spec =
+    tie.close
+    (tie.spec
+    Inv-loop
+    μ-loop
+    loop-holds
+    (λ c. omega arith)
+    (λ c. omega arith)
+    (λ c. omega arith)
+    (λ c κs. search needs)
+    add-count
+    (λ c. omega arith)
+    (λ c. omega arith)
+    loop-again
+    same-length
+    returns)

@@ -1,11 +1,10 @@
 -- `queries::lists::mark_odd` meets its contract: the marks are those of the places passed, none of which is bad. Assumes nothing.
-use mathlib.Core.Path.{_≡_, refl, sym, ap, _∙_}
+use mathlib.Core.Path.{_≡_, refl, sym, _∙_}
 use Prim.Native.Nat.{_-_, _≤_, _<_}
-use native.Mathlib.Nat.{le-antisymm, sub-zero}
+use native.Mathlib.Nat.{sub-zero}
 use native.Mathlib.Omega.{arith}
-use borrow.Author.Needs.{needs}
 use borrow.Author.Tests.{le-leb, lt-leb}
-use lib.ListN.{length, getD, length-set}
+use lib.ListN.{length, length-set}
 use Rattle.pfaffian.specs.Shot.{bit}
 use Rattle.state.proofs.Permutations.{table-long, mode-below}
 use Rattle.queries.specs.Lists.{firstFrom, oddly, outside, badPlace, oddMode}
@@ -41,7 +40,12 @@ mode-at-requires c κs = omega (arith, c .if1 .left, table-long _ _ (c .before .
 
 -- the mode of the qubit
 below : (c : tie.After-mode-at Inv-loop μ-loop) → c .mode-at .result < c .before .before .before .before .before .before .before .before .args .n
-below c = omega (arith, c .mode-at .ensures, mode-below _ _ (c .before .before .before .before .before .before .before .before .pre .0) _ (c .before .if1 .left))
+below c = omega (
+  arith,
+  c .mode-at .ensures,
+  mode-below _ _ (c .before .before .before .before .before .before .before .before .pre .0) _
+      (c .before .if1 .left),
+)
 
 marked : (c : tie.After-mode-at Inv-loop μ-loop) → c .mode-at .result < length (c .before .before .before .before .loop .marks)
 marked c = omega (arith, below c, c .before .before .before .before .loop .inv .2 .long)
@@ -52,8 +56,12 @@ slice-read-marks c = marked (c .before)
 sub-marks : tie.Need-sub-marks Inv-loop μ-loop
 sub-marks c =
     let l = c .before .before .before .before .before .loop in
-    omega (arith, l .inv .2 .each (c .before .mode-at .result) (below (c .before)),
-    bit-small (oddMode (c .before .before .before .before .before .before .before .before .before .args .modes .now) (c .before .before .before .before .before .before .before .before .before .args .qubits .now) (l .i) (c .before .mode-at .result)))
+    omega (
+      arith,
+      l .inv .2 .each (c .before .mode-at .result) (below (c .before)),
+      bit-small (oddMode (c .before .before .before .before .before .before .before .before .before .args .modes .now)
+          (c .before .before .before .before .before .before .before .before .before .args .qubits .now) (l .i) (c .before .mode-at .result)),
+    )
 
 slice-write-marks : tie.Need-slice-write-marks Inv-loop μ-loop
 slice-write-marks c = marked (c .before)
@@ -79,4 +87,22 @@ returns-2 c =
     (sym (first-none _ (l .i) _ (c .loop-test .left)) ∙ l .inv .1, l .inv .2)
 
 pub mark-odd-spec : {M : Type 1} → statement M
-mark-odd-spec = tie.close (tie.spec Inv-loop μ-loop loop-holds (λ c. omega arith) (λ c. omega arith) same-length returns mode-at-requires slice-read-marks sub-marks slice-write-marks (λ c. omega arith) (λ c. omega arith) loop-again same-length-2 returns-2)
+mark-odd-spec =
+    tie.close
+    (tie.spec
+    Inv-loop
+    μ-loop
+    loop-holds
+    (λ c. omega arith)
+    (λ c. omega arith)
+    same-length
+    returns
+    mode-at-requires
+    slice-read-marks
+    sub-marks
+    slice-write-marks
+    (λ c. omega arith)
+    (λ c. omega arith)
+    loop-again
+    same-length-2
+    returns-2)

@@ -1,6 +1,6 @@
 -- `queries::lists::note_bits` meets its contract: the marks are those of the places passed, none of which is bad or a contradiction. Assumes nothing.
 use mathlib.Core.Path.{_≡_, refl, sym, ap, _∙_}
-use mathlib.Core.Bool.{false, _||_}
+use mathlib.Core.Bool.{_||_}
 use Prim.Native.Nat.{suc, _+_, _-_, _≤_, _<_}
 use native.Mathlib.Nat.{sub-zero}
 use native.Mathlib.Omega.{arith}
@@ -42,13 +42,21 @@ mode-at-requires : tie.Need-mode-at-requires Inv-loop μ-loop
 mode-at-requires c κs = omega (arith, c .if1 .left, table-long _ _ (c .before .before .before .before .before .before .before .before .pre .0))
 
 -- the mode of the qubit, and its bit
-below : (c : tie.After-mode-at Inv-loop μ-loop) → c .mode-at .result < c .before .before .before .before .before .before .before .before .before .args .n
-below c = omega (arith, c .mode-at .ensures, mode-below _ _ (c .before .before .before .before .before .before .before .before .before .pre .0) _ (c .before .if1 .left))
+below : (c : tie.After-mode-at Inv-loop μ-loop)
+    → let e = c .before .before .before .before .before .before .before .before .before in c .mode-at .result < e .args .n
+below c = omega (
+  arith,
+  c .mode-at .ensures,
+  mode-below _ _
+      (c .before .before .before .before .before .before .before .before .before .pre .0) _ (c .before .if1 .left),
+)
 
 marked : (c : tie.After-mode-at Inv-loop μ-loop) → c .mode-at .result < length (c .before .before .before .before .loop .marks)
 marked c = omega (arith, below c, c .before .before .before .before .loop .inv .2 .long)
 
-told : (c : tie.After-mode-at Inv-loop μ-loop) → Bits (c .before .before .before .before .before .before .before .before .before .args .qubits .now) (c .before .before .before .before .before .before .before .before .before .args .bits .now)
+told : (c : tie.After-mode-at Inv-loop μ-loop) → Bits
+    (c .before .before .before .before .before .before .before .before .before .args .qubits .now)
+    (c .before .before .before .before .before .before .before .before .before .args .bits .now)
 told c = bits-asked _ _ (c .before .before .before .before .before .before .before .before .before .pre .1 .0)
 
 shared-slice-read-x : tie.Need-shared-slice-read-x Inv-loop μ-loop
@@ -65,7 +73,8 @@ slice-read-conflicts c = marked (c .before .before)
 -- what the test says of the place
 tested : (c : tie.After-conflicts Inv-loop μ-loop)
     → let e = c .before .before .before .before .before .before .before .before .before .before .before .before .args in
-    c .conflicts .result ≡ contradicts (modeListed (e .modes .now) (e .qubits .now)) (bitListed (e .bits .now)) (c .before .before .before .before .before .before .before .loop .i)
+    c .conflicts .result ≡ contradicts (modeListed (e .modes .now) (e .qubits .now)) (bitListed (e .bits .now))
+    (c .before .before .before .before .before .before .before .loop .i)
 tested c =
     let m = c .before .before .before in
     let l = c .before .before .before .before .before .before .before .loop in
@@ -81,10 +90,12 @@ same-length-2 c = c .before .before .before .before .before .before .before .bef
 returns-2 : tie.Need-returns-2 Inv-loop μ-loop
 returns-2 c =
     let t = c .before .before .before .before .before .before .before in
-    let l = t .before .loop in
-    (sym (first-hit _ (l .i) _ (t .loop-test .taken)
-    (rw (lt-leb _ _ (c .before .before .before .before .before .if1 .left)) (sym (tested (c .before)) ∙ c .if2 .taken)))
-    ∙ l .inv .1, l .inv .2)
+    let l = t .before .loop in (
+      sym (first-hit _ (l .i) _ (t .loop-test .taken)
+          (rw (lt-leb _ _ (c .before .before .before .before .before .if1 .left)) (sym (tested (c .before)) ∙ c .if2 .taken)))
+          ∙ l .inv .1,
+      l .inv .2,
+    )
 
 slice-write-marks : tie.Need-slice-write-marks Inv-loop μ-loop
 slice-write-marks c = marked (c .before .before .before .before)
@@ -111,4 +122,26 @@ returns-3 c =
     (sym (first-none _ (l .i) _ (c .loop-test .left)) ∙ l .inv .1, l .inv .2)
 
 pub note-bits-spec : {M : Type 1} → statement M
-note-bits-spec = tie.close (tie.spec Inv-loop μ-loop loop-holds (λ c. omega arith) (λ c. omega arith) same-length returns mode-at-requires shared-slice-read-x add-x slice-read-conflicts (λ c κs. search needs) same-length-2 returns-2 slice-write-marks (λ c. omega arith) (λ c. omega arith) loop-again same-length-3 returns-3)
+note-bits-spec =
+    tie.close
+    (tie.spec
+    Inv-loop
+    μ-loop
+    loop-holds
+    (λ c. omega arith)
+    (λ c. omega arith)
+    same-length
+    returns
+    mode-at-requires
+    shared-slice-read-x
+    add-x
+    slice-read-conflicts
+    (λ c κs. search needs)
+    same-length-2
+    returns-2
+    slice-write-marks
+    (λ c. omega arith)
+    (λ c. omega arith)
+    loop-again
+    same-length-3
+    returns-3)

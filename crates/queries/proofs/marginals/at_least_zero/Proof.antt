@@ -1,5 +1,4 @@
 -- `queries::marginals::at_least_zero` meets its contract, by its test. Assumes nothing.
-use mathlib.Core.Path.{_≡_}
 use lib.Ieee.{ofBits}
 use Rattle.queries.proofs.marginals.at_least_zero.Statement.{statement}
 use Rattle.queries.proofs.marginals.at_least_zero.Tie as tie

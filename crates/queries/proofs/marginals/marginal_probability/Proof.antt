@@ -1,11 +1,9 @@
 -- `queries::marginals::marginal_probability` meets its contract, by its questions. Assumes nothing.
-use mathlib.Core.Path.{_≡_, refl, sym, ap, _∙_}
-use Prim.Native.Nat.{ℕ, _*_, _≤_, _<_}
-use native.Mathlib.Omega.{arith}
+use mathlib.Core.Path.{_≡_, sym, ap, _∙_}
+use Prim.Native.Nat.{ℕ, _<_}
 use borrow.Author.Needs.{needs}
 use borrow.Author.Tests.{lt-ltb, le-ltb}
-use lib.ListN.{length, getD}
-
+use lib.ListN.{getD}
 use mathlib.Core.Bool.{_||_}
 use Rattle.state.specs.Answers.{told, refusal}
 use Rattle.state.proofs.Questions.{Asked}
@@ -33,8 +31,22 @@ returns c =
     let o = c .before .before .before .before .before .before .before .before .state-ok .ensures in
     let q = c .before .before .before .before .before .before .bits-ok .ensures in
     let p = c .before .before .before .note-bits .ensures .0 in (
-      rw (← o, c .before .before .before .before .before .before .before .if1 .taken, ← q, c .before .before .before .before .before .if2 .taken, ← p, lt-ltb _ _ (c .before .if3 .taken)) (c .stopped .ensures),
-      rw (← o, c .before .before .before .before .before .before .before .if1 .taken, ← q, c .before .before .before .before .before .if2 .taken, ← p, lt-ltb _ _ (c .before .if3 .taken)),
+      rw (
+        ← o,
+        c .before .before .before .before .before .before .before .if1 .taken,
+        ← q,
+        c .before .before .before .before .before .if2 .taken,
+        ← p,
+        lt-ltb _ _ (c .before .if3 .taken),
+      ) (c .stopped .ensures),
+      rw (
+        ← o,
+        c .before .before .before .before .before .before .before .if1 .taken,
+        ← q,
+        c .before .before .before .before .before .if2 .taken,
+        ← p,
+        lt-ltb _ _ (c .before .if3 .taken),
+      ),
     )
 
 marked-probability-requires : tie.Need-marked-probability-requires
@@ -45,10 +57,11 @@ marked-probability-requires c κs =
 returns-2 : tie.Need-returns-2
 unfolding marginalProbabilityOf marginalProbabilityWork stopPlace
 returns-2 c =
-    let e = c .before .before .before .before .before .before .before .before .before .before .before .before .before .before .before .before .before .before .args in
-    let o = c .before .before .before .before .before .before .before .before .before .before .before .before .state-ok .ensures in
-    let q = c .before .before .before .before .before .before .before .before .before .before .bits-ok .ensures in
-    let m = c .before .before .before .before .before .before .before .note-bits in
+    let p = c .before .before .before .before .before .before .before in
+    let e = p .before .before .before .before .before .before .before .before .before .before .before .args in
+    let o = p .before .before .before .before .before .state-ok .ensures in
+    let q = p .before .before .before .bits-ok .ensures in
+    let m = p .note-bits in
     let r = c .before .before .marked-probability .ensures in
     let h = c .before .before .before .before .before .if3 .left in
     let mode = modeListed (e .modes .now) (e .qubits .now) in
@@ -57,9 +70,24 @@ returns-2 c =
     let f = asked (e .modes .now) (e .qubits .now) (e .bits .now) in
     let alike : (k : ℕ) → k < e .n → getD (m .last .1 .1 .1 .1 .0) k 0 ≡ f k =
     λ k b. m .ensures .1 .each k b ∙ ap (λ i. noted mode bit i k) end in (
-      rw (← o, c .before .before .before .before .before .before .before .before .before .before .before .if1 .taken, ← q, c .before .before .before .before .before .before .before .before .before .if2 .taken, ← m .ensures .0, le-ltb _ _ h)
+      rw (
+        ← o,
+        p .before .before .before .before .if1 .taken,
+        ← q,
+        p .before .before .if2 .taken,
+        ← m .ensures .0,
+        le-ltb _ _ h,
+      )
           (r .0 ∙ answer-alike (e .n) _ f alike (covarianceOf (e .n) (e .state .now)) (e .work .now)),
-      rw (← o, c .before .before .before .before .before .before .before .before .before .before .before .if1 .taken, ← q, c .before .before .before .before .before .before .before .before .before .if2 .taken, ← m .ensures .0, le-ltb _ _ h) (r .1 ∙ work-alike (e .n) _ f alike (e .work .now)),
+      rw (
+        ← o,
+        p .before .before .before .before .if1 .taken,
+        ← q,
+        p .before .before .if2 .taken,
+        ← m .ensures .0,
+        le-ltb _ _ h,
+      ) (r .1
+          ∙ work-alike (e .n) _ f alike (e .work .now)),
     )
 
 returns-3 : tie.Need-returns-3
@@ -76,4 +104,18 @@ returns-4 c =
     (rw (← o, c .if1 .left), rw (← o, c .if1 .left))
 
 pub marginal-probability-spec : {M : Type 1} → statement M
-marginal-probability-spec = tie.close (tie.spec (λ c κs. tt) (λ c κs. tt) (λ c. search needs) note-bits-requires (λ c κs. search needs) returns (λ c. search needs) marked-probability-requires (λ c. search needs) returns-2 returns-3 returns-4)
+marginal-probability-spec =
+    tie.close
+    (tie.spec
+    (λ c κs. tt)
+    (λ c κs. tt)
+    (λ c. search needs)
+    note-bits-requires
+    (λ c κs. search needs)
+    returns
+    (λ c. search needs)
+    marked-probability-requires
+    (λ c. search needs)
+    returns-2
+    returns-3
+    returns-4)

@@ -1,9 +1,9 @@
 -- `queries::marginals::odd_ones` meets its contract: the parity of the modes passed. Assumes nothing.
-use mathlib.Core.Path.{_≡_, refl, ap, sym, _∙_}
+use mathlib.Core.Path.{_≡_, refl}
 use Prim.Native.Nat.{_-_, _≤_}
 use native.Mathlib.Omega.{arith}
 use borrow.Author.Needs.{needs}
-use lib.ListN.{length, getD}
+use lib.ListN.{getD}
 use Rattle.queries.specs.Lists.{oddly}
 use Rattle.queries.specs.Marginals.{isOne}
 use Rattle.queries.proofs.Searches.{odd-more}
@@ -33,4 +33,15 @@ returns c =
     rw z at (l .inv .1)
 
 pub odd-ones-spec : {M : Type 1} → statement M
-odd-ones-spec = tie.close (tie.spec Inv-loop μ-loop loop-holds (λ c. omega arith) (λ c κs. search needs) (λ c. omega arith) (λ c. omega arith) loop-again returns)
+odd-ones-spec =
+    tie.close
+    (tie.spec
+    Inv-loop
+    μ-loop
+    loop-holds
+    (λ c. omega arith)
+    (λ c κs. search needs)
+    (λ c. omega arith)
+    (λ c. omega arith)
+    loop-again
+    returns)

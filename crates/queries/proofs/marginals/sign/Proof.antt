@@ -1,5 +1,5 @@
 -- `queries::marginals::sign` meets its contract, by its test. Assumes nothing.
-use mathlib.Core.Path.{_≡_, sym, _∙_}
+use mathlib.Core.Path.{sym, _∙_}
 use borrow.Author.Needs.{needs}
 use lib.Ieee.{ofBits}
 use Rattle.queries.proofs.marginals.sign.Statement.{statement}

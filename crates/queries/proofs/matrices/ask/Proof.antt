@@ -1,5 +1,4 @@
 -- `queries::matrices::ask` meets its contract: the modes' matrix, halved and shifted (`ask-made`). Assumes nothing.
-use mathlib.Core.Path.{_≡_}
 use Prim.Native.Nat.{_*_}
 use borrow.Author.Needs.{needs}
 use lib.ListN.{getD}
@@ -12,7 +11,17 @@ returns : tie.Need-returns
 returns c =
     let e = c .before .before .before .before .before .before .before .before .before .before .before .before .before .before .before .before in
     ask-made (2 * e .args .count) _ (λ j. halfSpinOf (getD (e .args .marks .now) (getD (e .args .list .now) j 0) 0)) _ _ _ _ (e .pre .1 .1 .1)
-    (c .before .before .before .before .before .before .before .before .before .before .restrict .ensures) (c .before .before .before .before .before .before .halve .ensures) (c .before .before .shift-pairs .ensures)
+    (c .before .before .before .before .before .before .before .before .before .before .restrict .ensures)
+    (c .before .before .before .before .before .before .halve .ensures) (c .before .before .shift-pairs .ensures)
 
 pub ask-spec : {M : Type 1} → statement M
-ask-spec = tie.close (tie.spec (λ c. search needs) (λ c κs. search needs) (λ c. search needs) (λ c κs. search needs) (λ c κs. search needs) (λ c. search needs) returns)
+ask-spec =
+    tie.close
+    (tie.spec
+    (λ c. search needs)
+    (λ c κs. search needs)
+    (λ c. search needs)
+    (λ c κs. search needs)
+    (λ c κs. search needs)
+    (λ c. search needs)
+    returns)

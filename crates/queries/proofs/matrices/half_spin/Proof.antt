@@ -1,5 +1,4 @@
 -- `queries::matrices::half_spin` meets its contract, by its test. Assumes nothing.
-use mathlib.Core.Path.{_≡_}
 use borrow.Author.Tests.{eq-eqb, ne-eqb}
 use lib.Ieee.{ofBits}
 use Rattle.queries.proofs.matrices.half_spin.Statement.{statement}

@@ -32,4 +32,18 @@ returns : tie.Need-returns Inv-loop μ-loop
 returns c = mapped-end (mul binary64 half) (c .before .loop .i) _ _ _ (c .before .loop .inv .0 .0) (c .loop-test .left) (c .before .loop .inv .1)
 
 pub halve-spec : {M : Type 1} → statement M
-halve-spec = tie.close (tie.spec Inv-loop μ-loop loop-holds (λ c. omega arith) (λ c. omega arith) (λ c. omega arith) (λ c. omega arith) (λ c. omega arith) (λ c. omega arith) loop-again same-length returns)
+halve-spec =
+    tie.close
+    (tie.spec
+    Inv-loop
+    μ-loop
+    loop-holds
+    (λ c. omega arith)
+    (λ c. omega arith)
+    (λ c. omega arith)
+    (λ c. omega arith)
+    (λ c. omega arith)
+    (λ c. omega arith)
+    loop-again
+    same-length
+    returns)

@@ -1,9 +1,6 @@
 -- `queries::matrices::restrict` meets its contract: a row a turn (`rows-more`). Assumes nothing.
-use mathlib.Core.Path.{_≡_}
-use Prim.Native.Nat.{_*_, _-_, _≤_}
+use Prim.Native.Nat.{_-_, _≤_}
 use native.Mathlib.Omega.{arith}
-use borrow.Author.Needs.{needs}
-use lib.ListN.{length}
 use Rattle.queries.specs.Products.{restricted}
 use Rattle.queries.specs.Calls.{covarianceOf}
 use Rattle.queries.proofs.Filling.{RowsUpTo, rows-start, rows-more, rows-done}
@@ -26,7 +23,11 @@ restrict-row-requires c κs =
     (e .pre .0, (e .pre .1 .0, record { room = rw (c .before .before .loop .inv .1 .long) (e .pre .1 .1); row = h; col = h }))
 
 loop-again : tie.Need-loop-again Inv-loop μ-loop
-loop-again c = (omega arith, rows-more _ _ _ _ _ _ (c .before .before .before .before .before .before .before .before .before .pre .1 .1) (c .before .before .before .before .before .loop .inv .1) (c .before .before .restrict-row .ensures))
+loop-again c = (
+  omega arith,
+  rows-more _ _ _ _ _ _ (c .before .before .before .before .before .before .before .before .before .pre .1 .1)
+      (c .before .before .before .before .before .loop .inv .1) (c .before .before .restrict-row .ensures),
+)
 
 same-length : tie.Need-same-length Inv-loop μ-loop
 same-length c = c .before .loop .inv .1 .long
@@ -35,4 +36,15 @@ returns : tie.Need-returns Inv-loop μ-loop
 returns c = rows-done _ _ _ _ _ (c .before .before .before .before .before .pre .1 .1) (c .loop-test .left) (c .before .loop .inv .1)
 
 pub restrict-spec : {M : Type 1} → statement M
-restrict-spec = tie.close (tie.spec Inv-loop μ-loop loop-holds restrict-row-requires (λ c. omega arith) (λ c. omega arith) loop-again same-length returns)
+restrict-spec =
+    tie.close
+    (tie.spec
+    Inv-loop
+    μ-loop
+    loop-holds
+    restrict-row-requires
+    (λ c. omega arith)
+    (λ c. omega arith)
+    loop-again
+    same-length
+    returns)

@@ -1,9 +1,8 @@
 -- `queries::matrices::restrict_row` meets its contract: an entry a turn (`row-more`). Assumes nothing.
-use mathlib.Core.Path.{_≡_, refl, ap, _∙_}
-use Prim.Native.Nat.{_+_, _*_, _-_, _≤_, _<_}
+use mathlib.Core.Path.{_∙_}
+use Prim.Native.Nat.{_-_, _≤_}
 use native.Mathlib.Omega.{arith}
 use borrow.Author.Needs.{needs}
-use lib.ListN.{length, getD}
 use Rattle.queries.specs.Products.{restricted}
 use Rattle.queries.specs.Calls.{covarianceOf}
 use Rattle.queries.proofs.Filling.{RowUpTo, row-start, row-more, row-done, index-fits, index-small, index-below}
@@ -55,7 +54,9 @@ loop-again c =
       omega arith,
       row-more (restricted s (e .args .list .now)) (e .args .dim) (e .args .r) (l .c) (e .args .work .now) (l .work) _ _ (e .pre .1 .1 .row)
           (t .loop-test .taken) (e .pre .1 .1 .room)
-          (c .before .before .before .before .covariance .ensures ∙ (λ i. s (c .before .before .before .before .before .before .before .before .index .ensures i) (c .before .before .before .before .before .index2 .ensures i))) (l .inv .1) (c .before .before .put .ensures),
+          (c .before .before .before .before .covariance .ensures ∙ (λ i. s
+          (c .before .before .before .before .before .before .before .before .index .ensures i)
+          (c .before .before .before .before .before .index2 .ensures i))) (l .inv .1) (c .before .before .put .ensures),
     )
 
 same-length : tie.Need-same-length Inv-loop μ-loop
@@ -65,4 +66,19 @@ returns : tie.Need-returns Inv-loop μ-loop
 returns c = row-done _ _ _ _ _ _ (c .loop-test .left) (c .before .loop .inv .1)
 
 pub restrict-row-spec : {M : Type 1} → statement M
-restrict-row-spec = tie.close (tie.spec Inv-loop μ-loop index-requires loop-holds index-requires-2 mul-covariance covariance-requires put-requires (λ c. omega arith) (λ c. omega arith) loop-again same-length returns)
+restrict-row-spec =
+    tie.close
+    (tie.spec
+    Inv-loop
+    μ-loop
+    index-requires
+    loop-holds
+    index-requires-2
+    mul-covariance
+    covariance-requires
+    put-requires
+    (λ c. omega arith)
+    (λ c. omega arith)
+    loop-again
+    same-length
+    returns)

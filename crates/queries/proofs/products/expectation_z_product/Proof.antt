@@ -1,11 +1,7 @@
 -- `queries::products::expectation_z_product` meets its contract, by its questions. Assumes nothing.
-use mathlib.Core.Path.{_≡_, refl, sym, ap, _∙_}
-use Prim.Native.Nat.{ℕ, _*_, _≤_, _<_}
-use native.Mathlib.Omega.{arith}
+use mathlib.Core.Path.{sym, ap, _∙_}
 use borrow.Author.Needs.{needs}
 use borrow.Author.Tests.{lt-ltb, le-ltb}
-use lib.ListN.{length, getD}
-
 use Rattle.state.specs.Answers.{told, refusal}
 use Rattle.state.proofs.Questions.{Asked, asked}
 use Rattle.queries.specs.Lists.{outside, badPlace}
@@ -49,7 +45,8 @@ returns-2 c =
     let left = odd-left (e .n) (e .modes .now) (e .qubits .now) (m .result) _ end (m .ensures .1) in (
       rw (← o, c .before .before .before .before .before .before .before .before .before .if1 .taken, ← m .ensures .0, le-ltb _ _ h)
           (r .0 ∙ ap (λ l. worked (dimLeft l) (productOf (covarianceOf (e .n) (e .state .now)) l) (e .work .now)) left),
-      rw (← o, c .before .before .before .before .before .before .before .before .before .if1 .taken, ← m .ensures .0, le-ltb _ _ h) (r .1 ∙ ap (λ l. workedWork (dimLeft l) (e .work .now)) left),
+      rw (← o, c .before .before .before .before .before .before .before .before .before .if1 .taken, ← m .ensures .0, le-ltb _ _ h) (r .1 ∙ ap
+          (λ l. workedWork (dimLeft l) (e .work .now)) left),
     )
 
 returns-3 : tie.Need-returns-3
@@ -59,4 +56,15 @@ returns-3 c =
     (rw (← o, c .if1 .left), rw (← o, c .if1 .left))
 
 pub expectation-z-product-spec : {M : Type 1} → statement M
-expectation-z-product-spec = tie.close (tie.spec (λ c κs. tt) (λ c. search needs) mark-odd-requires returns (λ c. search needs) product-marked-requires (λ c. search needs) returns-2 returns-3)
+expectation-z-product-spec =
+    tie.close
+    (tie.spec
+    (λ c κs. tt)
+    (λ c. search needs)
+    mark-odd-requires
+    returns
+    (λ c. search needs)
+    product-marked-requires
+    (λ c. search needs)
+    returns-2
+    returns-3)

@@ -1,42 +1,45 @@
 -- `queries::products::product_marked` meets its contract: the modes' matrix and its Pfaffian, by the modes that the array lists. Assumes nothing.
-use mathlib.Core.Path.{_≡_, refl, sym, ap, _∙_}
-use Prim.Native.Nat.{ℕ, _*_, _≤_, _<_}
+use mathlib.Core.Path.{ap, _∙_}
 use native.Mathlib.Nat.{le-refl}
 use native.Mathlib.Omega.{arith}
 use borrow.Author.Needs.{needs}
-use lib.ListN.{length, getD}
-
-use lib.Dec.{ltb}
+use lib.ListN.{getD}
 use Rattle.state.specs.Answers.{told, refusal, accepted}
-use Rattle.state.proofs.Questions.{square-few}
 use Rattle.queries.specs.Lists.{notedModes}
 use Rattle.queries.specs.Products.{restricted, productOf}
 use Rattle.queries.specs.Calls.{covarianceOf, worked, workedWork}
-use Rattle.queries.proofs.Marking.{listed-modes, listed-few}
+use Rattle.queries.proofs.Marking.{listed-modes, listed-few, listed-square}
 use Rattle.queries.proofs.Leaving.{restricted-listed, value-left, work-left, work-fits, work-small}
 use Rattle.queries.proofs.products.product_marked.Statement.{statement}
 use Rattle.queries.proofs.products.product_marked.Tie as tie
 
--- few modes are listed
-few : (c : tie.After-list-modes) → c .list-modes .result ≤ c .before .before .before .before .before .args .n
-few c = listed-few _ (λ k. getD (c .before .before .before .before .before .args .marks .now) k 0) _ _ (c .list-modes .ensures)
-
 mul-dim : tie.Need-mul-dim
-mul-dim c = omega (arith, few (c .before), c .before .before .before .before .before .before .pre .0 .few)
+mul-dim c =
+    let e = c .before .before .before .before .before .before in
+    omega (arith, listed-few _ (λ k. getD (e .args .marks .now) k 0) _ _ (c .before .list-modes .ensures), e .pre .0 .few)
 
 mul-if1 : tie.Need-mul-if1
-mul-if1 c = omega (arith, square-few (c .before .list-modes .result) (omega (arith, few (c .before), c .before .before .before .before .before .before .pre .0 .few)))
+mul-if1 c =
+    let e = c .before .before .before .before .before .before in
+    omega (arith, listed-square _ (λ k. getD (e .args .marks .now) k 0) _ _ (e .pre .0 .few) (c .before .list-modes .ensures))
 
 returns : tie.Need-returns
 unfolding told refusal worked workedWork
 returns c =
-    let small = work-small _ _ _ (c .before .before .list-modes .ensures) (c .before .before .before .before .before .before .before .args .work .now) (c .if1 .taken) in
+    let small = work-small _ _ _ (c .before .before .list-modes .ensures)
+    (c .before .before .before .before .before .before .before .args .work .now) (c .if1 .taken) in
     (rw small, rw small)
 
 restrict-requires : tie.Need-restrict-requires
 restrict-requires c κs =
-    let e = c .before .before .before .before .before .before .before .before .before in
-    (e .pre .0, (listed-modes (e .args .n) (e .args .n) (λ k. getD (e .args .marks .now) k 0) _ _ (le-refl _) (c .before .before .before .before .list-modes .ensures), c .before .before .if1 .left))
+    let e = c .before .before .before .before .before .before .before .before .before in (
+      e .pre .0,
+      (
+        listed-modes (e .args .n) (e .args .n) (λ k. getD (e .args .marks .now) k 0) _ _ (le-refl _)
+            (c .before .before .before .before .list-modes .ensures),
+        c .before .before .if1 .left,
+      ),
+    )
 
 pfaffian-cleared-requires : tie.Need-pfaffian-cleared-requires
 pfaffian-cleared-requires c κs = search needs
@@ -58,4 +61,16 @@ returns-2 c =
     )
 
 pub product-marked-spec : {M : Type 1} → statement M
-product-marked-spec = tie.close (tie.spec (λ c. search needs) (λ c κs. search needs) mul-dim mul-if1 returns (λ c. search needs) restrict-requires pfaffian-cleared-requires (λ c. search needs) returns-2)
+product-marked-spec =
+    tie.close
+    (tie.spec
+    (λ c. search needs)
+    (λ c κs. search needs)
+    mul-dim
+    mul-if1
+    returns
+    (λ c. search needs)
+    restrict-requires
+    pfaffian-cleared-requires
+    (λ c. search needs)
+    returns-2)

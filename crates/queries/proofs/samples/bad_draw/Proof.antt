@@ -1,11 +1,11 @@
 -- `queries::samples::bad_draw` meets its contract: none of the draws passed is bad. Assumes nothing.
-use mathlib.Core.Path.{_≡_, refl, sym, ap, _∙_}
+use mathlib.Core.Path.{_≡_, sym, ap, _∙_}
 use mathlib.Core.Bool.{not}
 use Prim.Native.Nat.{_-_, _≤_}
 use native.Mathlib.Nat.{sub-zero}
 use native.Mathlib.Omega.{arith}
 use borrow.Author.Needs.{needs}
-use lib.ListN.{length, getD}
+use lib.ListN.{getD}
 use lib.Ieee.{nan}
 use Rattle.queries.specs.Lists.{firstFrom}
 use Rattle.queries.specs.Samples.{drawOkOf, badDrawOf}
@@ -26,9 +26,11 @@ loop-holds c = (omega arith, rw sub-zero)
 loop-again : tie.Need-loop-again Inv-loop μ-loop
 loop-again c =
     let l = c .before .before .before .before .loop in
-    let e = c .before .before .before .before .before .before in
-    (omega arith, sym (first-miss (λ j. not (drawOkOf (getD (e .args .draws .now) j nan))) (l .i) (e .args .used) (c .before .before .before .loop-test .taken)
-    (ap not (sym (c .before .draw-ok .ensures) ∙ c .if1 .taken))) ∙ l .inv .1)
+    let e = c .before .before .before .before .before .before in (
+      omega arith,
+      sym (first-miss (λ j. not (drawOkOf (getD (e .args .draws .now) j nan))) (l .i) (e .args .used) (c .before .before .before .loop-test .taken)
+          (ap not (sym (c .before .draw-ok .ensures) ∙ c .if1 .taken))) ∙ l .inv .1,
+    )
 
 returns : tie.Need-returns Inv-loop μ-loop
 returns c =
@@ -43,4 +45,17 @@ returns-2 c =
     sym (first-none _ (l .i) _ (c .loop-test .left)) ∙ l .inv .1
 
 pub bad-draw-spec : {M : Type 1} → statement M
-bad-draw-spec = tie.close (tie.spec Inv-loop μ-loop loop-holds (λ c. omega arith) (λ c. omega arith) (λ c κs. search needs) (λ c. omega arith) (λ c. omega arith) loop-again returns returns-2)
+bad-draw-spec =
+    tie.close
+    (tie.spec
+    Inv-loop
+    μ-loop
+    loop-holds
+    (λ c. omega arith)
+    (λ c. omega arith)
+    (λ c κs. search needs)
+    (λ c. omega arith)
+    (λ c. omega arith)
+    loop-again
+    returns
+    returns-2)

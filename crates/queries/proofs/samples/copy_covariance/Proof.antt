@@ -2,8 +2,6 @@
 use mathlib.Core.Path.{_≡_}
 use Prim.Native.Nat.{_*_, _-_, _≤_}
 use native.Mathlib.Omega.{arith}
-use borrow.Author.Needs.{needs}
-use lib.ListN.{length}
 use Rattle.queries.specs.Calls.{covarianceOf}
 use Rattle.queries.proofs.Filling.{RowsUpTo, rows-start, rows-more, rows-done}
 use Rattle.queries.proofs.samples.copy_covariance.Statement.{statement}
@@ -30,7 +28,11 @@ copy-row-requires c κs =
     )
 
 loop-again : tie.Need-loop-again Inv-loop μ-loop
-loop-again c = (omega arith, rows-more _ _ _ _ _ _ (c .before .before .before .before .before .before .before .before .pre .1) (c .before .before .before .before .before .loop .inv .1) (c .before .before .copy-row .ensures))
+loop-again c = (
+  omega arith,
+  rows-more _ _ _ _ _ _ (c .before .before .before .before .before .before .before .before .pre .1)
+      (c .before .before .before .before .before .loop .inv .1) (c .before .before .copy-row .ensures),
+)
 
 same-length : tie.Need-same-length Inv-loop μ-loop
 same-length c = c .before .loop .inv .1 .long
@@ -39,4 +41,16 @@ returns : tie.Need-returns Inv-loop μ-loop
 returns c = rows-done _ _ _ _ _ (c .before .before .before .before .pre .1) (c .loop-test .left) (c .before .loop .inv .1)
 
 pub copy-covariance-spec : {M : Type 1} → statement M
-copy-covariance-spec = tie.close (tie.spec Inv-loop μ-loop mul-dim loop-holds copy-row-requires (λ c. omega arith) (λ c. omega arith) loop-again same-length returns)
+copy-covariance-spec =
+    tie.close
+    (tie.spec
+    Inv-loop
+    μ-loop
+    mul-dim
+    loop-holds
+    copy-row-requires
+    (λ c. omega arith)
+    (λ c. omega arith)
+    loop-again
+    same-length
+    returns)

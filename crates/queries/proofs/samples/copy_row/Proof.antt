@@ -1,9 +1,8 @@
 -- `queries::samples::copy_row` meets its contract: an entry a turn (`row-more`). Assumes nothing.
-use mathlib.Core.Path.{_≡_, refl, ap, _∙_}
-use Prim.Native.Nat.{_+_, _*_, _-_, _≤_, _<_}
+use Prim.Native.Nat.{_+_, _*_, _-_, _≤_}
 use native.Mathlib.Omega.{arith}
 use borrow.Author.Needs.{needs}
-use lib.ListN.{length, getD}
+use lib.ListN.{getD}
 use lib.Ieee.{nan, binary64, mul}
 use Rattle.state.specs.State.{stateAt, get}
 use Rattle.queries.proofs.Filling.{RowUpTo, row-start, row-more, row-done}
@@ -28,7 +27,8 @@ loop-again c =
     let d = e .args .dim in (
       omega arith,
       row-more (get (stateAt d s)) d (e .args .r) (l .c) (e .args .work .now) (l .work) _ _ (e .pre .1 .row) (t .loop-test .taken) (e .pre .1 .room)
-          (λ i. mul binary64 (mul binary64 (c .before .before .before .before .before .entry .ensures i) (getD s (d * d + e .args .r) nan)) (getD s (d * d + l .c) nan))
+          (λ i. mul binary64 (mul binary64
+          (c .before .before .before .before .before .entry .ensures i) (getD s (d * d + e .args .r) nan)) (getD s (d * d + l .c) nan))
           (l .inv .1) (c .before .before .put .ensures),
     )
 
@@ -39,4 +39,23 @@ returns : tie.Need-returns Inv-loop μ-loop
 returns c = row-done _ _ _ _ _ _ (c .loop-test .left) (c .before .loop .inv .1)
 
 pub copy-row-spec : {M : Type 1} → statement M
-copy-row-spec = tie.close (tie.spec Inv-loop μ-loop (λ c. omega arith) (λ c. omega arith) (λ c. omega arith) (λ c. omega arith) loop-holds (λ c κs. search needs) (λ c. omega arith) (λ c. omega arith) (λ c. omega arith) (λ c κs. search needs) (λ c. omega arith) (λ c. omega arith) loop-again same-length returns)
+copy-row-spec =
+    tie.close
+    (tie.spec
+    Inv-loop
+    μ-loop
+    (λ c. omega arith)
+    (λ c. omega arith)
+    (λ c. omega arith)
+    (λ c. omega arith)
+    loop-holds
+    (λ c κs. search needs)
+    (λ c. omega arith)
+    (λ c. omega arith)
+    (λ c. omega arith)
+    (λ c κs. search needs)
+    (λ c. omega arith)
+    (λ c. omega arith)
+    loop-again
+    same-length
+    returns)

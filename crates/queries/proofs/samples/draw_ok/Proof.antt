@@ -1,5 +1,4 @@
 -- `queries::samples::draw_ok` meets its contract, by its test. Assumes nothing.
-use mathlib.Core.Path.{_≡_}
 use lib.Ieee.{ofBits}
 use Rattle.queries.proofs.samples.draw_ok.Statement.{statement}
 use Rattle.queries.proofs.samples.draw_ok.Tie as tie

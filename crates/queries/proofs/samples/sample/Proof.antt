@@ -1,10 +1,9 @@
 -- `queries::samples::sample` meets its contract, by its questions. Assumes nothing.
-use mathlib.Core.Path.{_≡_, refl, sym, ap, _∙_}
-use Prim.Native.Nat.{_*_, _≤_, _<_}
+use mathlib.Core.Path.{sym, _∙_}
+use Prim.Native.Nat.{_*_}
 use native.Mathlib.Omega.{arith}
 use borrow.Author.Needs.{needs}
 use borrow.Author.Tests.{le-leb, lt-leb}
-use lib.ListN.{length}
 use lib.Ieee.{ofBits}
 use Rattle.laws.specs.Zeros.{+0}
 use Rattle.laws.proofs.Matrix.{filled-is}
@@ -42,11 +41,12 @@ sample-worked-requires c κs =
 returns-2 : tie.Need-returns-2
 unfolding ofBits workedWork sampleOf sampleWork sampleOut
 returns-2 c =
-    let e = c .before .before .before .before .before .before .before .before .before .before .before .before .before .before .before .before .before .before .before .args in
-    let o = c .before .before .before .before .before .before .before .before .before .before .before .before .before .state-ok .ensures in
-    let t = c .before .before .before .before .before .before .before .before .before .before .before .before .if1 .taken in
-    let r = c .before .before .before .before .before .before .before .before .sample-worked .ensures in
-    let fits = le-leb _ _ (c .before .before .before .before .before .before .before .before .before .before .before .if2 .left) in (
+    let p = c .before .before .before .before .before .before .before .before in
+    let e = p .before .before .before .before .before .before .before .before .before .before .before .args in
+    let o = p .before .before .before .before .before .state-ok .ensures in
+    let t = p .before .before .before .before .if1 .taken in
+    let r = p .sample-worked .ensures in
+    let fits = le-leb _ _ (p .before .before .before .if2 .left) in (
       rw (← o, t, fits) (r .0),
       (rw (← o, t, fits) (c .before .before .fill .ensures ∙ filled-is (2 * e .n) +0 (e .work .now) _ _ (r .1 .1)), rw (← o, t, fits) (r .1 .0)),
     )
@@ -58,4 +58,17 @@ returns-3 c =
     (rw (← o, c .if1 .left), (rw (← o, c .if1 .left), rw (← o, c .if1 .left)))
 
 pub sample-spec : {M : Type 1} → statement M
-sample-spec = tie.close (tie.spec (λ c κs. tt) mul-dim mul-if2 returns sample-worked-requires (λ c. search needs) (λ c κs. search needs) (λ c. search needs) (λ c. search needs) returns-2 returns-3)
+sample-spec =
+    tie.close
+    (tie.spec
+    (λ c κs. tt)
+    mul-dim
+    mul-if2
+    returns
+    sample-worked-requires
+    (λ c. search needs)
+    (λ c κs. search needs)
+    (λ c. search needs)
+    (λ c. search needs)
+    returns-2
+    returns-3)
