@@ -14,19 +14,19 @@ use original::access::detect::DetectOptions;
 const TOL: f64 = 1e-10;
 
 /// One comparison: its name, and what is told of it.
-struct Tally {
+pub struct Tally {
     name: &'static str,
     compared: usize,
     differ: usize,
 }
 
 impl Tally {
-    fn new(name: &'static str) -> Tally {
+    pub fn new(name: &'static str) -> Tally {
         Tally { name, compared: 0, differ: 0 }
     }
 
     /// Counts one call; the first that differs is printed.
-    fn add(&mut self, operands: &[&[f64]], want: &[f64], got: &[f64]) {
+    pub fn add(&mut self, operands: &[&[f64]], want: &[f64], got: &[f64]) {
         self.compared += 1;
         if want.len() == got.len() && want.iter().zip(got).all(|(&w, &g)| same(w, g)) {
             return;
@@ -39,7 +39,7 @@ impl Tally {
     }
 
     /// Prints the count; whether nothing differed.
-    fn end(self) -> bool {
+    pub fn end(self) -> bool {
         println!("{:<12} {} compared, {} differ", self.name, self.compared, self.differ);
         self.differ == 0
     }
@@ -66,6 +66,7 @@ pub fn compare(seed: u64, count: usize, others: usize) -> bool {
             flat(32, detect::majorana_map2(mat4(u)))
         }),
         classes(rng, others),
+        crate::states::compare(rng, others),
         lengths(),
     ];
     ends.iter().all(|&well| well)

@@ -6,6 +6,7 @@ mod inputs;
 mod original_side;
 mod pieces;
 mod port;
+mod states;
 
 use std::process::ExitCode;
 

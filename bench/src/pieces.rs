@@ -43,6 +43,7 @@ pub fn table(seed: u64) {
     }
     let us: Vec<Flat4> = (0..CALLS).map(|_| matrix(rng, Kind::Dense)).collect();
     blocks("dense", &us);
+    crate::states::table(rng);
 }
 
 /// Maps and classes of the blocks.
@@ -84,7 +85,7 @@ fn blocks(name: &str, us: &[Flat4]) {
 }
 
 /// Times both sides of a piece and prints a line.
-fn row(name: &str, calls: usize, original: &mut dyn FnMut(), port: &mut dyn FnMut()) {
+pub fn row(name: &str, calls: usize, original: &mut dyn FnMut(), port: &mut dyn FnMut()) {
     let [a, b] = medians(original, port).map(|pass| pass / calls as f64);
     println!("{name:<30} {a:>12.1} {b:>12.1} {:>8.2}", b / a);
 }

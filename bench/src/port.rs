@@ -56,6 +56,40 @@ extern "C" {
         outn: usize,
     ) -> u32;
     fn leaf_class_residual(relabel: bool, tol: f64, u: *const f64, un: usize) -> f64;
+    fn leaf_apply(
+        n: usize,
+        s: *mut f64,
+        sn: usize,
+        modes: *const u16,
+        modesn: usize,
+        op: *const f64,
+        opn: usize,
+    );
+    fn leaf_z_product(
+        n: usize,
+        s: *const f64,
+        sn: usize,
+        modes: *const u16,
+        modesn: usize,
+        qubits: *const usize,
+        qubitsn: usize,
+        work: *mut f64,
+        workn: usize,
+    ) -> f64;
+    fn leaf_sample(
+        n: usize,
+        s: *const f64,
+        sn: usize,
+        modes: *const u16,
+        modesn: usize,
+        shots: usize,
+        draws: *const f64,
+        drawsn: usize,
+        work: *mut f64,
+        workn: usize,
+        out: *mut u64,
+        outn: usize,
+    );
 }
 
 /// Calls a function of two matrices on slices.
@@ -80,4 +114,59 @@ pub fn classify2(relabel: bool, tol: f64, u: &[f64], out: &mut [f64]) -> u32 {
 pub fn class_residual(relabel: bool, tol: f64, u: &[f64]) -> f64 {
     // SAFETY: the pointer comes with the length of its slice.
     unsafe { leaf_class_residual(relabel, tol, u.as_ptr(), u.len()) }
+}
+
+/// Applies an operation.
+pub fn apply(n: usize, s: &mut [f64], modes: &[u16], op: &[f64]) {
+    // SAFETY: each pointer comes with the length of its slice, and none overlaps the one written.
+    unsafe {
+        leaf_apply(n, s.as_mut_ptr(), s.len(), modes.as_ptr(), modes.len(), op.as_ptr(), op.len())
+    }
+}
+
+/// The product of Z over the listed qubits.
+pub fn z_product(n: usize, s: &[f64], modes: &[u16], qubits: &[usize], work: &mut [f64]) -> f64 {
+    // SAFETY: as above.
+    unsafe {
+        leaf_z_product(
+            n,
+            s.as_ptr(),
+            s.len(),
+            modes.as_ptr(),
+            modes.len(),
+            qubits.as_ptr(),
+            qubits.len(),
+            work.as_mut_ptr(),
+            work.len(),
+        )
+    }
+}
+
+/// Shots.
+pub fn sample(
+    n: usize,
+    s: &[f64],
+    modes: &[u16],
+    shots: usize,
+    draws: &[f64],
+    work: &mut [f64],
+    out: &mut [u64],
+) {
+    // SAFETY: as above.
+    unsafe {
+        leaf_sample(
+            n,
+            s.as_ptr(),
+            s.len(),
+            modes.as_ptr(),
+            modes.len(),
+            shots,
+            draws.as_ptr(),
+            draws.len(),
+            work.as_mut_ptr(),
+            work.len(),
+            out.as_mut_ptr(),
+            out.len(),
+        )
+    }
 }

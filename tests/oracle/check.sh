@@ -17,4 +17,10 @@ for family in $("$ORACLE" families); do
 done
 "$ORACLE" leaves | cmp - "$ROOT/crates/replay_leaves/data/leaves.bin"
 "$ORACLE" leaves products | cmp - "$ROOT/crates/replay_leaves/data/products.bin"
+for list in gates given phases; do
+    "$ORACLE" classify "$list" | cmp - "$ROOT/crates/replay_classify/data/$list.bin"
+done
+for list in signs applies queries edges samples; do
+    "$ORACLE" state "$list" | cmp - "$ROOT/crates/replay_state/data/$list.bin"
+done
 echo "the stored lists are what the original gives"

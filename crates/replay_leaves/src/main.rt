@@ -1,13 +1,6 @@
 // Replays the stored results of the leaves and prints how many agree, bit for bit, with what the
-// proved functions compute. A list is a file of words of eight bytes, the lowest first; a record is
-// a tag, operands and the wanted result; the tag 0 ends the list. Floats are stored by their bits,
-// every NaN by one pattern. docs/TESTING.md says how the lists were made.
-ghost use Prim.Native.Nat.{_+_, _≤_};
-ghost use lib.ListN.{length};
-use gate::Complex;
-use gate::Mat2;
-use gate::Mat4;
-use gate::Row4;
+// proved functions compute. A record is a tag, operands and the wanted result.
+ghost use Prim.Native.Nat.{_≤_};
 use libc::STDOUT_FILENO;
 
 // Tags of records.
@@ -56,48 +49,6 @@ fn words(tag: u64) -> usize
     }
 }
 
-fn is(x: f64, s: &[u8], at: usize) -> bool
-    requires { ⌜ at + 8 ≤ length (now s) ⌝ }
-{
-    num::to_bits(x) == num::u64_at(s, at)
-}
-
-fn is_complex(c: Complex, s: &[u8], at: usize) -> bool
-    requires { ⌜ at + 16 ≤ length (now s) ⌝ }
-{
-    is(c.re, s, at) && is(c.im, s, at + 8)
-}
-
-fn is_row(r: Row4, s: &[u8], at: usize) -> bool
-    requires { ⌜ at + 64 ≤ length (now s) ⌝ }
-{
-    if is_complex(r.c0, s, at) && is_complex(r.c1, s, at + 16) {
-        is_complex(r.c2, s, at + 32) && is_complex(r.c3, s, at + 48)
-    } else {
-        false
-    }
-}
-
-fn is_mat2(m: Mat2, s: &[u8], at: usize) -> bool
-    requires { ⌜ at + 64 ≤ length (now s) ⌝ }
-{
-    if is_complex(m.r0.c0, s, at) && is_complex(m.r0.c1, s, at + 16) {
-        is_complex(m.r1.c0, s, at + 32) && is_complex(m.r1.c1, s, at + 48)
-    } else {
-        false
-    }
-}
-
-fn is_mat4(m: Mat4, s: &[u8], at: usize) -> bool
-    requires { ⌜ at + 256 ≤ length (now s) ⌝ }
-{
-    if is_row(m.r0, s, at) && is_row(m.r1, s, at + 64) {
-        is_row(m.r2, s, at + 128) && is_row(m.r3, s, at + 192)
-    } else {
-        false
-    }
-}
-
 // A record of numbers: up to three operands, then the result.
 fn numbers_agree(tag: u64, s: &[u8]) -> bool {
     if s.len() < 16 {
@@ -105,25 +56,25 @@ fn numbers_agree(tag: u64, s: &[u8]) -> bool {
     }
     let x = num::f64_at(s, 0);
     if tag == SQRT {
-        return is(num::sqrt(x), s, 8);
+        return stored::is(num::sqrt(x), s, 8);
     }
     if tag == ABS {
-        return is(num::abs(x), s, 8);
+        return stored::is(num::abs(x), s, 8);
     }
     if s.len() < 24 {
         return false;
     }
     let y = num::f64_at(s, 8);
     if tag == MAX {
-        return is(num::max(x, y), s, 16);
+        return stored::is(num::max(x, y), s, 16);
     }
     if tag == MIN {
-        return is(num::min(x, y), s, 16);
+        return stored::is(num::min(x, y), s, 16);
     }
     if s.len() < 32 {
         return false;
     }
-    is(num::clamp(x, y, num::f64_at(s, 16)), s, 24)
+    stored::is(num::clamp(x, y, num::f64_at(s, 16)), s, 24)
 }
 
 // A record of a code and its matrix.
@@ -136,7 +87,7 @@ fn table_agrees(tag: u64, s: &[u8]) -> bool {
         if 9 <= code {
             return false;
         }
-        return is_mat2(gate::matrix_1q(code), s, 8);
+        return stored::is_mat2(gate::matrix_1q(code), s, 8);
     }
     if s.len() < 264 {
         return false;
@@ -147,7 +98,7 @@ fn table_agrees(tag: u64, s: &[u8]) -> bool {
     if 21 <= code {
         return false;
     }
-    is_mat4(gate::matrix_2q(code), s, 8)
+    stored::is_mat4(gate::matrix_2q(code), s, 8)
 }
 
 // A record of one or two 2 by 2 matrices and a result.
@@ -157,19 +108,19 @@ fn small_agrees(tag: u64, s: &[u8]) -> bool {
     }
     let a = gate::given2(s, 0);
     if tag == DAG2 {
-        return is_mat2(gate::dag2(a), s, 64);
+        return stored::is_mat2(gate::dag2(a), s, 64);
     }
     let b = gate::given2(s, 64);
     if s.len() < 192 {
         return false;
     }
     if tag == MUL2 {
-        return is_mat2(gate::mul2(a, b), s, 128);
+        return stored::is_mat2(gate::mul2(a, b), s, 128);
     }
     if s.len() < 384 {
         return false;
     }
-    is_mat4(gate::kron(a, b), s, 128)
+    stored::is_mat4(gate::kron(a, b), s, 128)
 }
 
 // A record of one or two 4 by 4 matrices and a result.
@@ -179,15 +130,15 @@ fn large_agrees(tag: u64, s: &[u8]) -> bool {
     }
     let a = gate::given4(s, 0);
     if tag == DAG4 {
-        return is_mat4(gate::dag4(a), s, 256);
+        return stored::is_mat4(gate::dag4(a), s, 256);
     }
     if tag == SWAP_QUBITS {
-        return is_mat4(gate::mat4_swap_qubits(a), s, 256);
+        return stored::is_mat4(gate::mat4_swap_qubits(a), s, 256);
     }
     if s.len() < 768 {
         return false;
     }
-    is_mat4(gate::mul4(a, gate::given4(s, 256)), s, 512)
+    stored::is_mat4(gate::mul4(a, gate::given4(s, 256)), s, 512)
 }
 
 fn agrees(tag: u64, s: &[u8]) -> bool {

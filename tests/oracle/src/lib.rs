@@ -4,14 +4,17 @@
 pub mod answer;
 pub mod bits;
 pub mod check;
+pub mod classify;
 pub mod families;
 pub mod gate_text;
 pub mod leaves;
 pub mod list;
 pub mod query;
+pub mod records;
 pub mod rng;
 pub mod run;
 pub mod selftest;
+pub mod state_lists;
 pub mod state_text;
 pub mod tape;
 pub mod vector;

@@ -6,7 +6,7 @@ mod finish;
 mod maker;
 mod matchgate;
 mod opaque;
-mod pieces;
+pub mod pieces;
 mod register;
 mod reorder;
 mod tails;

@@ -1,7 +1,8 @@
 //! Two-qubit blocks written out in gates.
 
 use crate::rng::Rng;
-use original::gate::Gate;
+use original::access::detect::access as detect;
+use original::gate::{Gate, Mat4};
 use std::f64::consts::PI;
 
 /// Gates that fuse to one block on a pair of qubits.
@@ -133,4 +134,18 @@ pub fn phase_or_flip(rng: &mut Rng, q: usize) -> Gate {
         2 => Gate::Rx(q, PI),
         _ => phase(rng, q),
     }
+}
+
+/// The matrix of gates on qubits 0 and 1, applied in their order.
+pub fn matrix(gates: &[Gate]) -> Mat4 {
+    let identity = Gate::I(0).matrix_1q().expect("a one-qubit gate");
+    let of = |g: &Gate| match (g.matrix_1q(), g.qubits()[0]) {
+        (Some(u), 0) => detect::kron(&u, &identity),
+        (Some(u), _) => detect::kron(&identity, &u),
+        (None, 0) => g.matrix_2q().expect("a two-qubit gate"),
+        (None, _) => detect::swap_qubits(&g.matrix_2q().expect("a two-qubit gate")),
+    };
+    let mut all = gates.iter().map(of);
+    let first = all.next().expect("at least one gate");
+    all.fold(first, |acc, u| detect::mul4(&u, &acc))
 }

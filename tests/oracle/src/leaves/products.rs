@@ -1,6 +1,8 @@
 //! Gate tables and products of small matrices, by the original's own functions.
 
-use super::{tag, Records};
+use super::tag;
+use crate::bits::word;
+use crate::records::Records;
 use crate::rng::Rng;
 use crate::tape::{entries, NAMED1, NAMED2};
 use original::access::detect::access as detect;
@@ -113,7 +115,7 @@ fn with_kron(rng: &mut Rng, first: bool) -> (Mat4, Mat4) {
 fn skip_shows(rng: &mut Rng) -> (Mat4, Mat4) {
     loop {
         let (a, b) = (special(rng), special(rng));
-        let words = |m: &Mat4| -> Vec<u64> { entries(m).iter().map(|&x| super::word(x)).collect() };
+        let words = |m: &Mat4| -> Vec<u64> { entries(m).iter().map(|&x| word(x)).collect() };
         if words(&detect::mul4(&a, &b)) != words(&without_skip(&a, &b)) {
             return (a, b);
         }

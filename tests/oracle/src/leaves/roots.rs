@@ -1,6 +1,7 @@
 //! Square roots, by the hardware.
 
-use super::{tag, Records};
+use super::tag;
+use crate::records::Records;
 use crate::rng::Rng;
 
 pub fn add(out: &mut Records) {

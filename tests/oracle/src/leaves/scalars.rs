@@ -1,7 +1,8 @@
 //! Rust's own methods on floats: abs, max, min, clamp.
 
-use super::{tag, Records};
+use super::tag;
 use crate::bits::same;
+use crate::records::Records;
 use crate::rng::Rng;
 use std::hint::black_box;
 

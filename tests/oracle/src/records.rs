@@ -1,0 +1,46 @@
+//! Stored lists: words of 8 bytes, little endian. A record is a tag and what
+//! follows it; tag 0 ends the list. docs/TESTING.md has the tables of tags.
+
+use crate::bits::word;
+
+/// The tag that ends a list.
+const END: u64 = 0;
+
+/// The largest list, in bytes.
+const LARGEST: usize = 60_000;
+
+/// Records so far.
+#[derive(Default)]
+pub struct Records(Vec<u64>);
+
+impl Records {
+    /// Adds a record of floats.
+    pub fn floats(&mut self, tag: u64, parts: &[&[f64]]) {
+        self.0.push(tag);
+        parts.iter().for_each(|part| self.more(part));
+    }
+
+    /// Adds a gate's code and the entries of its matrix.
+    pub fn table(&mut self, tag: u64, code: u8, entries: &[f64]) {
+        self.words(&[tag, u64::from(code)]);
+        self.more(entries);
+    }
+
+    /// Adds words.
+    pub fn words(&mut self, words: &[u64]) {
+        self.0.extend(words);
+    }
+
+    /// Adds floats to the last record.
+    pub fn more(&mut self, floats: &[f64]) {
+        self.0.extend(floats.iter().map(|&x| word(x)));
+    }
+
+    /// The bytes of the list, with its end.
+    pub fn bytes(mut self) -> Vec<u8> {
+        self.0.push(END);
+        let bytes: Vec<u8> = self.0.iter().flat_map(|w| w.to_le_bytes()).collect();
+        assert!(bytes.len() <= LARGEST, "a list of {} bytes is too large", bytes.len());
+        bytes
+    }
+}
