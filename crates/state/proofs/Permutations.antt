@@ -11,7 +11,7 @@ use native.Mathlib.Omega.{arith}
 use lib.Dec.{eqb, ltb, leb}
 use lib.ListN.{length, getD, set, length-set}
 use lib.Seq.{getD-set-same, getD-set-other}
-use borrow.Author.Tests.{eq-eqb, ne-eqb, lt-ltb, ltb-true, leb-true}
+use borrow.Author.Tests.{eq-eqb, ne-eqb, eqb-true, lt-ltb, ltb-true, leb-true}
 use Rattle.laws.proofs.Cases.{lt-or-le, eq-or-ne}
 use Rattle.state.specs.Modes.{modeAt, allBelow, unused, modeOk, isPermutation}
 
@@ -40,6 +40,21 @@ module _ (f : ℕ → Bool) where
   pub all-more : (n : ℕ) → allBelow f n ≡ true → f n ≡ true → allBelow f (n + 1) ≡ true
   unfolding allBelow
   all-more n t e = rw (add-one, t, e)
+
+  -- one more that holds
+  pub all-next : (n : ℕ) (b : Bool) → b ≡ allBelow f n → f n ≡ true → b ≡ allBelow f (n + 1)
+  unfolding allBelow
+  all-next n b t e = rw (add-one, e) (t ∙ and-true (allBelow f n))
+    where
+      and-true : (b : Bool) → b ≡ b && true
+      and-true true = refl
+      and-true false = refl
+
+  -- all hold
+  pub all-of : (n : ℕ) → ((k : ℕ) → k < n → f k ≡ true) → allBelow f n ≡ true
+  unfolding allBelow
+  all-of zero h = refl
+  all-of (suc n) h = rw (all-of n (λ k g. h k (omega arith)), h n (omega arith))
 
   -- one that fails is enough
   pub all-fails : (n k : ℕ) → k < n → f k ≡ false → false ≡ allBelow f n
@@ -126,6 +141,20 @@ module _ (n : ℕ) (l : List ℕ) (q k : ℕ) (seen : List Bool) (e : k ≡ mode
       rw (lt-ltb (modeAt l q) n b) (not-false (unused l q (modeAt l q)) (sym f ∙ mark-here))
 
 -- ---- a permutation
+
+-- the table in which each entry is its own number is one
+pub identity-ok : (n : ℕ) (l : List ℕ) → allBelow (λ q. eqb (modeAt l q) q) n ≡ true → allBelow (modeOk n l) n ≡ true
+identity-ok n l e = all-of (modeOk n l) n one
+  where
+    own : (q : ℕ) → q < n → modeAt l q ≡ q
+    own q h = eqb-true (modeAt l q) q (all-each (λ q. eqb (modeAt l q) q) n q e h)
+
+    one : (q : ℕ) → q < n → modeOk n l q ≡ true
+    one q h =
+        let b : modeAt l q < n = omega (arith, own q h) in
+        rw (lt-ltb (modeAt l q) n b)
+        (all-of (λ p. not (eqb (modeAt l p) (modeAt l q))) q
+        (λ p g. ap not (ne-eqb (modeAt l p) (modeAt l q) (λ y. omega (arith, own q h, own p (omega arith), y)))))
 
 not-eqb : (a b : ℕ) → not (eqb a b) ≡ true → a ≢ b
 not-eqb a b e q = absurd (false≢true (ap not (sym (eq-eqb a b q)) ∙ e))

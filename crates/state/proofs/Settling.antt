@@ -2,10 +2,10 @@
 -- the rows after the columns. Assumes nothing.
 use mathlib.Core.Path.{_≡_, refl, sym, ap, _∙_}
 use mathlib.Core.Logic.{_⊎_, inl, inr, _≢_}
-use mathlib.Core.Bool.{Bool, true, false, cond, _&&_}
+use mathlib.Core.Bool.{Bool, true, false, cond, _&&_, _||_, false≢true}
 use mathlib.Core.List.{List}
 use Prim.Native.Nat.{ℕ, _+_, _*_, _-_, _≤_, _<_}
-use native.Mathlib.Nat.{le-refl, le-of-eq}
+use native.Mathlib.Nat.{le-refl, le-of-eq, add-zero}
 use native.Mathlib.Omega.{arith}
 use lib.Dec.{eqb}
 use lib.ListN.{length, getD, set, length-set}
@@ -20,12 +20,12 @@ use Rattle.laws.specs.Loops.{upTo, byRow, byCol}
 use Rattle.laws.proofs.Cases.{lt-or-le, eq-or-ne}
 use Rattle.laws.proofs.Tables.{update-here, update-away}
 use Rattle.laws.proofs.Maps.{inside-yes, inside-below, inside-above}
-use Rattle.laws.proofs.Matrix.{matrix-is, at-set-same, at-set-other, after-set, at-set-after}
+use Rattle.laws.proofs.Matrix.{matrix-is, is-matrix, at-set-same, at-set-other, after-set, at-set-after}
 use Rattle.laws.proofs.Loops.{more, up-left, entry-more}
 use Rattle.state.specs.Bounds.{statePlaces}
 use Rattle.state.specs.State.{State, stateAt, stored, Stored}
 use Rattle.state.specs.Apply.{unsettled, calm}
-use Rattle.state.specs.Parts.{band, settledState, rowsSettled, columnsSettled, partSettled, rowNegated, settledRow, settledEntry}
+use Rattle.state.specs.Parts.{Below4, band, settledState, rowsSettled, columnsSettled, partSettled, rowNegated, settledRow, settledEntry}
 use Rattle.state.proofs.Stored.{same, alike-is, stored-is, is-stored}
 
 -- ---- which indices are marked
@@ -94,6 +94,24 @@ none-more f j none e i h = by (eq-or-ne i j) (lt-or-le i j)
     by (inl q) _ = ap f q ∙ e
     by (inr q) (inl g) = none i g
     by (inr q) (inr g) = absurd (q (omega arith))
+
+-- none of four
+or-left : (a b : Bool) → a || b ≡ false → a ≡ false
+or-left true b e = e
+or-left false b e = refl
+
+or-right : (a b : Bool) → a || b ≡ false → b ≡ false
+or-right true b e = absurd (false≢true (sym e))
+or-right false b e = e
+
+pub none-of-four : (f : ℕ → Bool) → f 0 || (f 1 || (f 2 || f 3)) ≡ false → (i : ℕ) → i < 4 → f i ≡ false
+none-of-four f e =
+    let e₁ = or-right (f 0) (f 1 || (f 2 || f 3)) e in
+    let e₂ = or-right (f 1) (f 2 || f 3) e₁ in
+    none-more f 3
+    (none-more f 2
+    (none-more f 1 (none-more f 0 (λ i h. absurd (omega arith)) (or-left (f 0) (f 1 || (f 2 || f 3)) e)) (or-left (f 1) (f 2 || f 3) e₁))
+    (or-left (f 2) (f 3) e₂)) (or-right (f 2) (f 3) e₂)
 
 pub settled-none : (dim s k : ℕ) (v : List Float) → statePlaces dim ≤ length v → ((i : ℕ) → i < k → lt (getD v (dim * dim + (s + i)) nan) +0 ≡ false)
     → v ≡ stored dim (settledState (band s k) (stateAt dim v)) v
@@ -271,6 +289,30 @@ module _ (dim i s j : ℕ) (m₀ m : List Float) (hi : i < dim) (h : s + j < dim
       by true f = part-more m′ f (moved true f)
       by false f = rw (moved false f) (part-kept f)
 
+-- a part of four, straight on
+module _ (dim i s : ℕ) (m₀ m₁ : List Float) (hi : i < dim) (fit : s + 4 ≤ dim) (room : statePlaces dim ≤ length m₀)
+    (e₁ : m₁ ≡ settledEntry dim i s m₀) where
+  pub part-one : PartTo dim i s m₀ 1 m₁
+  part-one =
+      part-next dim i s 0 m₀ m₀ hi (omega arith) room (part-none dim i s m₀) m₁ (e₁ ∙ ap (λ x. settledEntry dim i x m₀) (sym (add-zero s)))
+
+  pub part-two : (m₂ : List Float) → m₂ ≡ settledEntry dim i (s + 1) m₁ → PartTo dim i s m₀ 2 m₂
+  part-two = part-next dim i s 1 m₀ m₁ hi (omega arith) room part-one
+
+  pub part-three : (m₂ m₃ : List Float) → m₂ ≡ settledEntry dim i (s + 1) m₁ → m₃ ≡ settledEntry dim i (s + 2) m₂ → PartTo dim i s m₀ 3 m₃
+  part-three m₂ m₃ e₂ = part-next dim i s 2 m₀ m₂ hi (omega arith) room (part-two m₂ e₂) m₃
+
+  pub part-four : (m₂ m₃ m₄ : List Float) → m₂ ≡ settledEntry dim i (s + 1) m₁ → m₃ ≡ settledEntry dim i (s + 2) m₂
+      → m₄ ≡ settledEntry dim i (s + 3) m₃
+      → m₄ ≡ matrix dim (partSettled (band s 4) i (stateAt dim m₀)) m₀
+  part-four m₂ m₃ m₄ e₂ e₃ e₄ =
+      is-matrix _ _ _ _ (part-next dim i s 3 m₀ m₃ hi (omega arith) room (part-three m₂ m₃ e₂ e₃) m₄ e₄)
+
+-- the signs are still those of the start
+pub sign-kept : (dim i s j x : ℕ) (b : Bool) (m₀ m : List Float) → PartTo dim i s m₀ j m → b ≡ lt (getD m₀ (dim * dim + x) nan) +0
+    → b ≡ lt (getD m (dim * dim + x) nan) +0
+sign-kept dim i s j x b m₀ m w e = e ∙ ap (λ y. lt y +0) (sym (w .after (dim * dim + x) (omega arith)))
+
 -- ---- the columns, a row's part a turn
 
 abbrev pub ColumnsTo : ℕ → ℕ → ℕ → List Float → ℕ → List Float → Type 0
@@ -298,6 +340,19 @@ columns-more dim s k n m₀ m m′ h room fit w e = more byRow new (at dim m₀)
         c .each r x a b
         ∙ ap (λ t. sg (t && unsettled (band s k) (stateAt dim m .d) x) (at dim m r x)) (eq-eqb r n q)
         ∙ (λ t. sg (mark x b t) ((w .each r x a b ∙ up-left byRow new (at dim m₀) n r x (le-of-eq (sym q))) t))
+
+-- the signs are still those of the start
+pub signs-kept : (dim s n : ℕ) (b0 b1 b2 b3 : Bool) (m₀ m : List Float) → ColumnsTo dim s 4 m₀ n m → Below4 m₀ dim s b0 b1 b2 b3
+    → Below4 m dim s b0 b1 b2 b3
+signs-kept dim s n b0 b1 b2 b3 m₀ m w b = record {
+  first = b .first ∙ kept s;
+  second = b .second ∙ kept (s + 1);
+  third = b .third ∙ kept (s + 2);
+  fourth = b .fourth ∙ kept (s + 3);
+}
+  where
+    kept : (x : ℕ) → lt (getD m₀ (dim * dim + x) nan) +0 ≡ lt (getD m (dim * dim + x) nan) +0
+    kept x = ap (λ y. lt y +0) (sym (w .after (dim * dim + x) (omega arith)))
 
 -- ---- the columns, then the rows
 

@@ -48,6 +48,13 @@ pub record NoMarks (seen : List Bool) (n : ℕ) : Type 0 where
   pub long : n ≤ length seen
   pub clear : (k : ℕ) → getD seen k false ≡ false
 
+-- which of the four signs from start on are below zero
+pub record Below4 (s : List Float) (dim start : ℕ) (b0 b1 b2 b3 : Bool) : Type 0 where
+  pub first : b0 ≡ lt (getD s (dim * dim + start) nan) +0
+  pub second : b1 ≡ lt (getD s (dim * dim + (start + 1)) nan) +0
+  pub third : b2 ≡ lt (getD s (dim * dim + (start + 2)) nan) +0
+  pub fourth : b3 ≡ lt (getD s (dim * dim + (start + 3)) nan) +0
+
 -- ---- lines of the determinant
 
 abbrev pub line2 : Real2 → Line

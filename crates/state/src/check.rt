@@ -2,6 +2,7 @@
 
 ghost use mathlib.Core.Path.{_≡_};
 ghost use Prim.Native.Nat.{_≤_, _<_};
+ghost use lib.Dec.{eqb};
 ghost use lib.ListN.{length};
 ghost use Rattle.state.specs.Bounds.{maxQubits};
 ghost use Rattle.state.specs.Modes.{modeAt, allBelow, modeOk, isPermutation};
@@ -22,6 +23,24 @@ pub fn mode_at(modes: &[u16], q: usize) -> usize
     ensures { λ r. ⌜ r ≡ modeAt (now (modes .entry)) q ⌝ }
 {
     wide(modes[q])
+}
+
+// Each of the first n entries is its own number, as in the table of a fresh state. All are looked at,
+// so that the compiler compares several at once.
+fn is_identity(n: usize, modes: &[u16]) -> bool
+    requires { ⌜ n ≤ maxQubits ⌝ }
+    requires { ⌜ n ≤ length (now modes) ⌝ }
+    ensures { λ r. ⌜ r ≡ allBelow (λ q. eqb (modeAt (now (modes .entry)) q) q) n ⌝ }
+{
+    let mut same = true;
+    let mut q = 0;
+    while q < n {
+        if modes[q] != (q as u16) {
+            same = false;
+        }
+        q += 1;
+    }
+    same
 }
 
 // Each of the first n entries is below n, and no two are equal. The modes met so far are marked.
@@ -52,6 +71,9 @@ fn is_permutation(n: usize, modes: &[u16]) -> bool
 {
     if modes.len() < n {
         return false;
+    }
+    if is_identity(n, modes) {
+        return true;
     }
     let mut seen = [false; MAX_QUBITS];
     each_once(n, modes, &mut seen)

@@ -16,6 +16,7 @@ use super::maps::Map4;
 use super::rows::rows2;
 use super::rows::rows4;
 use super::signs::settle;
+use super::signs::settle4;
 use super::signs::turn_from;
 
 pub fn apply_local2(state: &mut [f64], dim: usize, s: usize, q: Map2)
@@ -34,7 +35,7 @@ pub fn apply_local4(state: &mut [f64], dim: usize, s: usize, q: Map4)
     requires { ⌜ HasBand (now state) dim s 4 ⌝ }
     ensures { λ _. ⌜ now (state .exit) ≡ stored dim (step odd (local4 s q) (stateAt dim (now (state .entry)))) (now (state .entry)) ⌝ }
 {
-    settle(state, dim, s, 4);
+    settle4(state, dim, s);
     rows4(state, dim, s, q);
     columns4(state, dim, s, q);
     if det4(q) < 0.0 {

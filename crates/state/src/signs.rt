@@ -2,13 +2,15 @@
 
 ghost use mathlib.Core.Path.{_≡_};
 ghost use mathlib.Core.List.{map};
+ghost use mathlib.Core.Bool.{_||_};
 ghost use Prim.Native.Nat.{_+_, _*_, _-_, _<_};
-ghost use lib.ListN.{set};
-ghost use lib.Ieee.{neg};
+ghost use lib.ListN.{set, getD};
+ghost use lib.Ieee.{nan, neg, lt};
+ghost use Rattle.laws.specs.Zeros.{+0};
 ghost use Rattle.laws.specs.Slices.{onPart};
 ghost use Rattle.laws.specs.Matrix.{at, matrix, Inside};
 ghost use Rattle.state.specs.State.{stateAt, stored};
-ghost use Rattle.state.specs.Parts.{HasSign, HasBand, band, settledState};
+ghost use Rattle.state.specs.Parts.{HasSign, HasBand, Below4, band, settledState};
 ghost use Rattle.state.specs.Parts.{rowNegated, settledRow, rowsSettled, settledEntry, partSettled, columnsSettled};
 use super::grid::entry;
 use super::grid::put;
@@ -57,15 +59,26 @@ fn settle_rows(state: &mut [f64], dim: usize, s: usize, k: usize)
     }
 }
 
-// The sign of column i is folded into row r.
+// The sign of column i, which `below` says to be below zero or not, is folded into row r.
+fn settle_where(state: &mut [f64], dim: usize, r: usize, i: usize, below: bool)
+    requires { ⌜ HasSign (now state) dim i ⌝ }
+    requires { ⌜ r < dim ⌝ }
+    requires { ⌜ below ≡ lt (getD (now state) (dim * dim + i) nan) +0 ⌝ }
+    ensures { λ _. ⌜ now (state .exit) ≡ settledEntry dim r i (now (state .entry)) ⌝ }
+{
+    if below {
+        negate(state, dim, r, i);
+    }
+}
+
+// The same by the sign itself.
 fn settle_entry(state: &mut [f64], dim: usize, r: usize, i: usize)
     requires { ⌜ HasSign (now state) dim i ⌝ }
     requires { ⌜ r < dim ⌝ }
     ensures { λ _. ⌜ now (state .exit) ≡ settledEntry dim r i (now (state .entry)) ⌝ }
 {
-    if state[dim * dim + i] < 0.0 {
-        negate(state, dim, r, i);
-    }
+    let below = state[dim * dim + i] < 0.0;
+    settle_where(state, dim, r, i, below);
 }
 
 // In row r the signs of the k indices from s on are folded into their columns.
@@ -107,6 +120,74 @@ pub fn settle(state: &mut [f64], dim: usize, s: usize, k: usize)
             return;
         }
         j += 1;
+    }
+}
+
+// The same four wide, with the signs read before: for all that the compiler knows a store to m may be
+// one to d, so that it would read them again in every row.
+fn settle_part4(
+    state: &mut [f64],
+    dim: usize,
+    r: usize,
+    s: usize,
+    b0: bool,
+    b1: bool,
+    b2: bool,
+    b3: bool,
+)
+    requires { ⌜ HasBand (now state) dim s 4 ⌝ }
+    requires { ⌜ r < dim ⌝ }
+    requires { ⌜ Below4 (now state) dim s b0 b1 b2 b3 ⌝ }
+    ensures { λ _. ⌜ now (state .exit) ≡ matrix dim (partSettled (band s 4) r (stateAt dim (now (state .entry)))) (now (state .entry)) ⌝ }
+{
+    settle_where(state, dim, r, s, b0);
+    settle_where(state, dim, r, s + 1, b1);
+    settle_where(state, dim, r, s + 2, b2);
+    settle_where(state, dim, r, s + 3, b3);
+}
+
+// In every row.
+fn settle_columns4(state: &mut [f64], dim: usize, s: usize, b0: bool, b1: bool, b2: bool, b3: bool)
+    requires { ⌜ HasBand (now state) dim s 4 ⌝ }
+    requires { ⌜ Below4 (now state) dim s b0 b1 b2 b3 ⌝ }
+    ensures { λ _. ⌜ now (state .exit) ≡ matrix dim (columnsSettled (band s 4) (stateAt dim (now (state .entry)))) (now (state .entry)) ⌝ }
+{
+    let mut r = 0;
+    while r < dim {
+        settle_part4(state, dim, r, s, b0, b1, b2, b3);
+        r += 1;
+    }
+}
+
+// One of them is set.
+fn any4(b0: bool, b1: bool, b2: bool, b3: bool) -> bool
+    ensures { λ r. ⌜ r ≡ b0 || (b1 || (b2 || b3)) ⌝ }
+{
+    if b0 {
+        return true;
+    }
+    if b1 {
+        return true;
+    }
+    if b2 {
+        return true;
+    }
+    b3
+}
+
+// What `settle` does, four wide.
+pub fn settle4(state: &mut [f64], dim: usize, s: usize)
+    requires { ⌜ HasBand (now state) dim s 4 ⌝ }
+    ensures { λ _. ⌜ now (state .exit) ≡ stored dim (settledState (band s 4) (stateAt dim (now (state .entry)))) (now (state .entry)) ⌝ }
+{
+    let at = dim * dim + s;
+    let b0 = state[at] < 0.0;
+    let b1 = state[at + 1] < 0.0;
+    let b2 = state[at + 2] < 0.0;
+    let b3 = state[at + 3] < 0.0;
+    if any4(b0, b1, b2, b3) {
+        settle_columns4(state, dim, s, b0, b1, b2, b3);
+        settle_rows(state, dim, s, 4);
     }
 }
 

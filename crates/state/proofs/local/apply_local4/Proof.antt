@@ -17,7 +17,7 @@ returns c =
     let e = c₃ .before .before .before .before .before .before .before .before .before .before .before in
     let below = ap (λ x. lt x +0) (sym (f .before .det4 .ensures)) ∙ f .if1 .taken in
     step-turned odd (local4 (e .args .s) (e .args .q)) (e .args .dim) (e .args .state .now) _ _ _ (e .pre .room) (e .pre .band)
-    (c₃ .before .before .before .before .before .before .before .before .settle .ensures) (c₃ .before .before .before .before .rows4 .ensures)
+    (c₃ .before .before .before .before .before .before .before .before .settle4 .ensures) (c₃ .before .before .before .before .rows4 .ensures)
     (c₃ .columns4 .ensures) _ below (c .before .before .turn-from .ensures)
 
 returns-2 : tie.Need-returns-2
@@ -27,7 +27,7 @@ returns-2 c =
     let e = c₃ .before .before .before .before .before .before .before .before .before .before .before in
     let above = ap (λ x. lt x +0) (sym (c .before .det4 .ensures)) ∙ c .if1 .left in
     step-kept odd (local4 (e .args .s) (e .args .q)) (e .args .dim) (e .args .state .now) _ _ _ (e .pre .room) (e .pre .band)
-    (c₃ .before .before .before .before .before .before .before .before .settle .ensures) (c₃ .before .before .before .before .rows4 .ensures)
+    (c₃ .before .before .before .before .before .before .before .before .settle4 .ensures) (c₃ .before .before .before .before .rows4 .ensures)
     (c₃ .columns4 .ensures) above
 
 pub apply-local4-spec : {M : Type 1} → statement M

@@ -1,17 +1,13 @@
--- `state::signs::settle_entry` meets its contract, by its test. Assumes nothing.
+-- `state::signs::settle_entry` meets its contract, by `settle_where`. Assumes nothing.
+use mathlib.Core.Path.{refl}
 use borrow.Author.Needs.{needs}
 use lib.Ieee.{ofBits}
-use Rattle.state.specs.Parts.{settledEntry}
 use Rattle.state.proofs.signs.settle_entry.Statement.{statement}
 use Rattle.state.proofs.signs.settle_entry.Tie as tie
 
-returns : tie.Need-returns
-unfolding settledEntry ofBits
-returns c = rw (c .before .before .before .before .if1 .taken) (c .before .before .negate .ensures)
-
-returns-2 : tie.Need-returns-2
-unfolding settledEntry ofBits
-returns-2 c = rw (c .if1 .left)
+settle-where-requires : tie.Need-settle-where-requires
+unfolding ofBits
+settle-where-requires c κs = (search needs, (search needs, refl))
 
 pub settle-entry-spec : {M : Type 1} → statement M
 settle-entry-spec =
@@ -21,7 +17,6 @@ settle-entry-spec =
     (λ c. search needs)
     (λ c. search needs)
     (λ c. search needs)
-    (λ c κs. search needs)
+    settle-where-requires
     (λ c. search needs)
-    returns
-    returns-2)
+    (λ c. search needs))

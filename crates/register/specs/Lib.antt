@@ -1,0 +1,7 @@
+-- The bit register of demand 3, its answers, and what the theorems about fusing speak of. Definitions only.
+pub mod Register
+pub mod Answers
+pub mod Runs
+pub mod Bits
+pub mod Blocks
+pub mod Follows

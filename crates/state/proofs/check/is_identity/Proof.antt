@@ -1,0 +1,63 @@
+-- `state::check::is_identity` meets its contract: an entry a turn. Assumes nothing.
+use mathlib.Core.Path.{_≡_, refl, sym, ap, _∙_}
+use mathlib.Core.Logic.{⊎-elim}
+use mathlib.Core.Bool.{Bool}
+use mathlib.Core.List.{List}
+use Prim.Native.Nat.{ℕ, _+_, _-_, _≤_, _<_}
+use native.Mathlib.Nat.{le-antisymm}
+use native.Mathlib.Omega.{arith}
+use borrow.Author.Needs.{needs}
+use borrow.Author.Tests.{eq-eqb, ne-eqb}
+use lib.Dec.{eqb}
+use lib.ListN.{length}
+use Rattle.state.specs.Modes.{modeAt, allBelow}
+use Rattle.state.proofs.Permutations.{all-next, all-fails}
+use Rattle.state.proofs.check.is_identity.Statement.{statement}
+use Rattle.state.proofs.check.is_identity.Tie as tie
+
+abbrev own : List ℕ → ℕ → Bool
+own l q = eqb (modeAt l q) q
+
+abbrev Inv-loop : tie.InvT-loop
+Inv-loop n modes same₀ q₀ same q = (q ≤ n) × (same ≡ allBelow (own modes) q)
+
+abbrev μ-loop : tie.MeasureT-loop
+μ-loop n modes same₀ q₀ same q = n - q
+
+loop-holds : tie.Need-loop-holds Inv-loop μ-loop
+unfolding allBelow
+loop-holds c = (search needs, refl)
+
+loop-again : tie.Need-loop-again Inv-loop μ-loop
+loop-again c =
+    let l = c .before .before .before .loop in
+    let e = c .before .before .before .before .args in
+    let f = own (e .modes .now) in (
+      omega arith,
+      ⊎-elim
+          (λ w. w .1 ∙ all-fails f (l .q + 1) (l .q) (omega arith) (ne-eqb _ _ (w .0 .taken)))
+          (λ w. w .1 ∙ all-next f (l .q) (l .same) (l .inv .1) (eq-eqb _ _ (w .0 .left)))
+          (c .if1 .came),
+    )
+
+returns : tie.Need-returns Inv-loop μ-loop
+returns c =
+    let l = c .before .loop in
+    let e = c .before .before .args in
+    let all : l .q ≡ e .n = le-antisymm (l .inv .0) (c .loop-test .left) in
+    l .inv .1 ∙ ap (allBelow (own (e .modes .now))) all
+
+pub is-identity-spec : {M : Type 1} → statement M
+is-identity-spec =
+    tie.close
+    (tie.spec
+    Inv-loop
+    μ-loop
+    loop-holds
+    (λ c. search needs)
+    (λ c. search needs)
+    (λ c. omega arith)
+    (λ c. omega arith)
+    (λ c. omega arith)
+    loop-again
+    returns)
