@@ -17,6 +17,9 @@ for family in $("$ORACLE" families); do
 done
 "$ORACLE" leaves | cmp - "$ROOT/crates/replay_leaves/data/leaves.bin"
 "$ORACLE" leaves products | cmp - "$ROOT/crates/replay_leaves/data/products.bin"
+for list in cuts mixed angled; do
+    "$ORACLE" fuse "$list" | cmp - "$ROOT/crates/replay_fuse/data/$list.bin"
+done
 for list in gates given phases; do
     "$ORACLE" classify "$list" | cmp - "$ROOT/crates/replay_classify/data/$list.bin"
 done

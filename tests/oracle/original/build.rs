@@ -1,7 +1,8 @@
 //! Writes the module tree of the original engine into OUT_DIR. The files are
 //! compiled where they stand, below the folder that QSIM_SRC names; none is
 //! copied into this repository. The tree `access` holds the same text with an
-//! access module after the last line (see docs/TESTING.md).
+//! access module after the last line, and `traced` that one with a line of
+//! `fuse` changed (see docs/TESTING.md).
 
 use std::path::{Path, PathBuf};
 use std::{env, fs};
@@ -23,13 +24,16 @@ fn main() {
     let state = source(&root, STATE);
     let detect_access = with_access(&detect, "src/access_detect.rs", &out.join("detect.rs"));
     let state_access = with_access(&state, "src/access_state.rs", &out.join("state.rs"));
+    let detect_traced = traced(&detect_access, &out.join("detect_traced.rs"));
     let tree = format!(
         "#[path = {gate:?}] pub mod gate;\n\
          #[path = {circuit:?}] pub mod circuit;\n\
          pub mod engines {{ pub mod gaussian {{\n{}}} }}\n\
-         pub mod access {{\n{}}}\n",
+         pub mod access {{\n{}}}\n\
+         pub mod traced {{\n{}}}\n",
         gaussian(&detect, &state),
         gaussian(&detect_access, &state_access),
+        gaussian(&detect_traced, &state_access),
     );
     write(&out.join("tree.rs"), &tree);
 }
@@ -59,6 +63,15 @@ fn gaussian(detect: &Path, state: &Path) -> String {
 fn with_access(original: &Path, access: &str, to: &Path) -> PathBuf {
     println!("cargo:rerun-if-changed={access}");
     write(to, &format!("{}\n{}", read(original), read(Path::new(access))));
+    to.to_path_buf()
+}
+
+/// The same with one line changed: `fuse` tells the access module of each cut that it classifies.
+fn traced(access: &Path, to: &Path) -> PathBuf {
+    const CALL: &str = "let cl = classify2(&u, opts);";
+    let text = read(access);
+    assert_eq!(text.matches(CALL).count(), 1, "`fuse` classifies in one place");
+    write(to, &text.replace(CALL, "let cl = access::note(&u, opts);"));
     to.to_path_buf()
 }
 

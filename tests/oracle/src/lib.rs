@@ -6,6 +6,7 @@ pub mod bits;
 pub mod check;
 pub mod classify;
 pub mod families;
+pub mod fused;
 pub mod gate_text;
 pub mod leaves;
 pub mod list;

@@ -1,6 +1,7 @@
 /// Access to the private functions of this file (appended for the tests).
 pub mod access {
-    use super::{DetectOptions, Kind2, Mat2, Mat4};
+    use super::{Circuit, DetectOptions, Kind2, Mat2, Mat4};
+    use std::cell::Cell;
 
     /// A map of `K` Majorana operators and its residual.
     pub type Mapped<const K: usize> = ([[f64; K]; K], f64);
@@ -103,5 +104,95 @@ pub mod access {
         edges: &[((usize, usize), usize)],
     ) -> (Vec<usize>, Vec<Vec<usize>>, bool) {
         super::path_order(n, edges)
+    }
+
+    /// `Item` with public fields; the phase of a diagonal block stays with its kind.
+    #[derive(Clone, Copy, Debug)]
+    pub enum Item {
+        One { w: usize, u: Mat2 },
+        Two { a: usize, b: usize, v: Mat4, kind: Kind, g: f64, residual: f64 },
+        Opaque,
+    }
+
+    /// `Fused` with public fields.
+    #[derive(Clone, Debug)]
+    pub struct Fused {
+        pub items: Vec<Item>,
+        pub slot_of_qubit: Vec<usize>,
+        pub content: Vec<usize>,
+        pub swaps: usize,
+    }
+
+    #[inline(never)]
+    pub fn fuse(c: &Circuit, opts: &DetectOptions) -> Fused {
+        let f = super::fuse(c, opts);
+        let items = f.items.iter().map(item).collect();
+        Fused { items, slot_of_qubit: f.slot_of_qubit, content: f.content, swaps: f.swaps }
+    }
+
+    /// The number of items alone, for timing.
+    #[inline(never)]
+    pub fn fuse_count(c: &Circuit, opts: &DetectOptions) -> usize {
+        super::fuse(c, opts).items.len()
+    }
+
+    fn item(it: &super::Item) -> Item {
+        match *it {
+            super::Item::One { w, u } => Item::One { w, u },
+            super::Item::Opaque => Item::Opaque,
+            super::Item::Two { a, b, v, kind, residual } => {
+                let (kind, g) = match kind {
+                    Kind2::Diag { g } => (Kind::Diag, g),
+                    Kind2::Match => (Kind::Match, 0.0),
+                    Kind2::NonGaussian => (Kind::NonGaussian, 0.0),
+                };
+                Item::Two { a, b, v, kind, g, residual }
+            }
+        }
+    }
+
+    /// The cuts that `fuse` classified: how many, whether one passed an off-diagonal test, and
+    /// whether a phase lay between half and twice the tolerance. Only in the tree `traced`.
+    #[derive(Clone, Copy, Debug, Default)]
+    pub struct Trace {
+        pub tried: usize,
+        pub angled: bool,
+        pub near: bool,
+    }
+
+    thread_local! {
+        static TRACE: Cell<Trace> = const { Cell::new(Trace { tried: 0, angled: false, near: false }) };
+    }
+
+    pub fn trace(c: &Circuit, opts: &DetectOptions) -> Trace {
+        TRACE.set(Trace::default());
+        super::fuse(c, opts);
+        TRACE.get()
+    }
+
+    /// `classify2`, with a note of the off-diagonal tests that it makes.
+    #[allow(dead_code)]
+    pub(super) fn note(u: &Mat4, opts: &DetectOptions) -> super::Class2 {
+        let class = super::classify2(u, opts);
+        let ends_plain = match class.kind {
+            Kind2::Diag { g } => !class.swap && g.abs() <= opts.tol,
+            Kind2::Match => !class.swap,
+            Kind2::NonGaussian => false,
+        };
+        let mut trace = TRACE.get();
+        trace.tried += 1;
+        let mut test = |m: &Mat4| {
+            if super::offdiag4(m) <= opts.tol {
+                let g = super::diag_phases(m).2.abs();
+                trace.angled = true;
+                trace.near |= 0.5 * opts.tol <= g && g <= 2.0 * opts.tol;
+            }
+        };
+        test(u);
+        if opts.relabel_swaps && !ends_plain {
+            test(&super::mul4(&super::swap4(), u));
+        }
+        TRACE.set(trace);
+        class
     }
 }

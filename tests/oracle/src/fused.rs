@@ -1,0 +1,255 @@
+//! The stored lists of tapes and the items that the original's `fuse` makes of
+//! them: words of 8 bytes, little endian. A record is a tag, the length of the
+//! tape, how many words follow in all, the tape, and the answer; tag 0 ends the
+//! list. docs/TESTING.md says more.
+
+use crate::bits::word;
+use crate::families;
+use crate::list::{List, RELABEL};
+use crate::rng::Rng;
+use crate::tape::{entries, tape};
+use original::access::detect::access::{fuse, Item, Kind};
+use original::access::detect::DetectOptions as Options;
+use original::gate::Gate;
+use original::traced::detect::access::trace;
+use original::traced::detect::DetectOptions as TracedOptions;
+
+/// A tape of which items are compared in every bit, and one of which kinds and wires are: tapes with
+/// a cut that passed an off-diagonal test.
+const EXACT: u64 = 1;
+const ANGLED: u64 = 2;
+
+/// The largest list, in bytes, and the gates and qubits of a tape together at most.
+const LARGEST: usize = 60_000;
+const ROOM: usize = 128;
+
+/// The tolerance of the tapes made here.
+const TOL: f64 = 1e-10;
+
+/// Records so far.
+#[derive(Default)]
+struct Records(Vec<u64>);
+
+impl Records {
+    /// Adds a list with its tape; nothing if the two engines may differ there, if it is of the other
+    /// tag, or if there is no room.
+    fn add(&mut self, tag: u64, list: &List, bytes: Vec<u8>) -> bool {
+        let (tol, relabel_swaps, reorder) = (list.tol, list.has(RELABEL), false);
+        let circuit = list.circuit();
+        let seen = trace(&circuit, &TracedOptions { tol, relabel_swaps, reorder });
+        let apart = seen.angled && (seen.near || list.tol < 1e-12);
+        if apart || (tag == ANGLED) != seen.angled || list.gates.len() + list.n > ROOM {
+            return false;
+        }
+        let fused = fuse(&circuit, &Options { tol, relabel_swaps, reorder });
+        let mut body = words_of(&bytes);
+        body.extend([fused.swaps, seen.tried, usize::from(seen.angled)].map(|x| x as u64));
+        body.extend(fused.slot_of_qubit.iter().chain(&fused.content).map(|&x| x as u64));
+        fused.items.iter().for_each(|it| add_item(&mut body, it, list.tol, seen.angled));
+        if 8 * (self.0.len() + body.len() + 4) > LARGEST {
+            return false;
+        }
+        self.0.extend([tag, bytes.len() as u64, body.len() as u64]);
+        self.0.extend(body);
+        true
+    }
+
+    /// Adds a list with its own tape.
+    fn plain(&mut self, tag: u64, list: &List) -> bool {
+        tape(list).is_ok_and(|bytes| self.add(tag, list, bytes))
+    }
+
+    fn bytes(mut self) -> Vec<u8> {
+        self.0.push(0);
+        self.0.iter().flat_map(|w| w.to_le_bytes()).collect()
+    }
+}
+
+/// Bytes as words, zeros after the last.
+fn words_of(bytes: &[u8]) -> Vec<u64> {
+    let word = |part: &[u8]| part.iter().rev().fold(0, |w, &b| w << 8 | u64::from(b));
+    bytes.chunks(8).map(word).collect()
+}
+
+/// An item: a word of its kind and wires, of a two-qubit item the residual, the matrix.
+fn add_item(out: &mut Vec<u64>, it: &Item, tol: f64, angled: bool) {
+    let head = |kind: usize, a: usize, b: usize| (kind + 256 * a + 65_536 * b) as u64;
+    let mut floats = Vec::new();
+    match *it {
+        Item::One { w, ref u } => {
+            out.push(head(4, w, 0));
+            floats.extend(entries(u));
+        }
+        Item::Two { a, b, ref v, kind, g, residual } => {
+            let kind = match kind {
+                Kind::Match => 5,
+                Kind::Diag => 6 + usize::from(g.abs() > tol),
+                Kind::NonGaussian => 8,
+            };
+            out.push(head(kind, a, b));
+            floats.push(residual);
+            floats.extend(entries(v));
+        }
+        Item::Opaque => out.push(head(9, 0, 0)),
+    }
+    if !angled {
+        out.extend(floats.iter().map(|&x| word(x)));
+    }
+}
+
+/// The list of a name.
+pub fn list(name: &str) -> Result<Vec<u8>, String> {
+    let mut out = Records::default();
+    match name {
+        "cuts" => cuts(&mut out),
+        "mixed" => mixed(&mut out),
+        "angled" => random(&mut out, ANGLED, &["angles", "tails", "register", "opaque"]),
+        _ => return Err(format!("`{name}` is no list of items")),
+    }
+    Ok(out.bytes())
+}
+
+fn of(n: usize, flags: u8, gates: Vec<Gate>) -> List {
+    List { n, flags, tol: TOL, limit: 0, gates, queries: vec![] }
+}
+
+/// Lists of random families as long as there is room: one of each family in turn.
+fn random(out: &mut Records, tag: u64, names: &[&str]) {
+    let mut rng = Rng::new(tag);
+    for k in 0..400 {
+        let family = families::find(names[k % names.len()]).expect("a family");
+        out.plain(tag, &family(&mut rng.split()));
+    }
+}
+
+/// Tails of about as many gates as two windows. A rotation by ZZ with Hadamards before it is Gaussian
+/// only if they are undone after it: with the first p gates of the tail, or with more.
+fn cuts(out: &mut Records) {
+    let mut rng = Rng::new(3);
+    for length in [7, 8, 9, 16, 17, 18, 19] {
+        for p in [1, 7, 8, 9, 10, 11, length - 1, length] {
+            let other = rng.pick(&[1, 2, 3, length]);
+            let q = rng.between(1, other);
+            if p <= length {
+                let list = tailed(&mut rng, (length, p), (other, q));
+                assert!(out.plain(EXACT, &list), "a tail of {length}, {p}");
+            }
+        }
+    }
+}
+
+/// A block on two of four qubits, in either order, a tail on each of them, and blocks after these.
+fn tailed(rng: &mut Rng, long: (usize, usize), other: (usize, usize)) -> List {
+    let (a, b) = rng.pick(&[(0, 1), (1, 0)]);
+    let (x, y) = rng.pick(&[(0, 1), (1, 0)]);
+    let mut gates = vec![Gate::H(0), Gate::H(1)];
+    gates.extend([Gate::Cnot(a, b), Gate::S(b), Gate::Cnot(a, b)]);
+    gates.extend(tail(rng, x, long));
+    gates.extend(tail(rng, y, other));
+    gates.push(if rng.chance(1, 2) { Gate::ISwap(x, 2) } else { Gate::ISwapdg(2, x) });
+    if rng.chance(1, 2) {
+        gates.push(Gate::ISwap(y, 3));
+    }
+    of(4, rng.below(2) as u8, gates)
+}
+
+/// So many gates on q, none diagonal; those before gate p keep the X axis, and gate p takes it to Z.
+fn tail(rng: &mut Rng, q: usize, (length, p): (usize, usize)) -> Vec<Gate> {
+    let before = [Gate::X(q), Gate::Sx(q), Gate::Sxdg(q)];
+    let after = [Gate::X(q), Gate::H(q), Gate::Y(q), Gate::Sx(q)];
+    let gate = |k: usize| match k {
+        _ if k < p => rng.pick(&before),
+        _ if k == p => Gate::H(q),
+        _ => rng.pick(&after),
+    };
+    (1..=length).map(gate).collect()
+}
+
+/// Small lists that are about one thing each, then random ones.
+fn mixed(out: &mut Records) {
+    swaps(out);
+    small(out);
+    random(out, EXACT, &["opaque", "matchgate", "tails", "register", "reorder"]);
+}
+
+/// A Swap by its code, and by its matrix: on the tape the matrix is given, to the original it comes
+/// as three flips.
+fn swaps(out: &mut Records) {
+    let three = |a, b| [Gate::Cnot(a, b), Gate::Cnot(b, a), Gate::Cnot(a, b)];
+    for flags in [0, RELABEL] {
+        for (a, b) in [(0, 1), (1, 0)] {
+            let first = [Gate::ISwap(1, 2), Gate::X(0), Gate::H(1)];
+            let last = [Gate::H(0), Gate::ISwap(0, 2)];
+            let coded = of(3, flags, [&first[..], &[Gate::Swap(a, b)], &last].concat());
+            for tag in [EXACT, ANGLED] {
+                out.plain(tag, &coded);
+                let flips = of(3, flags, [&first[..], &three(a, b), &last].concat());
+                let bytes = given_swaps(&coded);
+                out.add(tag, &flips, bytes);
+            }
+        }
+    }
+}
+
+/// The tape of a list, with the matrix of each Swap in place of its code.
+fn given_swaps(list: &List) -> Vec<u8> {
+    let mut out = tape(&of(list.n, list.flags, vec![])).expect("a header");
+    for &g in &list.gates {
+        let alone = tape(&of(list.n, list.flags, vec![g])).expect("a tape");
+        out.extend(&alone[20..]);
+        if let Gate::Swap(..) = g {
+            let start = out.len() - 3;
+            out[start] = 0x1f;
+            let m = g.matrix_2q().expect("a two-qubit gate");
+            out.extend(entries(&m).iter().flat_map(|x| x.to_le_bytes()));
+        }
+    }
+    out
+}
+
+/// Reversed pairs, gates between, opaque blocks between, runs of diagonal gates.
+fn small(out: &mut Records) {
+    use Gate::*;
+    let lists = [
+        vec![],
+        vec![Ccx(0, 1, 2)],
+        vec![ISwap(0, 1), Sx(0), T(1), ISwap(1, 0)],
+        vec![ISwap(1, 0), Sx(0), H(1), Cnot(0, 1), S(0), Cnot(1, 0)],
+        vec![ISwap(0, 1), X(0), Y(1), Ccx(0, 1, 2), H(1), ISwap(0, 1), Sx(2)],
+        vec![ISwap(0, 1), Ccx(2, 3, 1), ISwap(0, 1), H(0), Ccx(0, 2, 3), Y(2)],
+        vec![
+            ISwap(0, 1),
+            S(1),
+            T(1),
+            X(1),
+            Z(1),
+            S(1),
+            ISwap(1, 2),
+            T(0),
+            S(0),
+            Tdg(0),
+            H(0),
+            T(0),
+        ],
+        vec![H(0), ISwap(0, 1), H(1), Sx(1), ISwap(1, 2), Sxdg(2), ISwap(2, 3), H(3), X(0)],
+        vec![H(0), H(1), ISwap(0, 1), H(0), T(0), H(1), S(1), ISwap(2, 1), ISwap(0, 3), Y(3)],
+        vec![
+            S(0),
+            ISwap(0, 1),
+            H(1),
+            ISwap(1, 2),
+            ISwap(0, 1),
+            H(0),
+            Swap(0, 2),
+            ISwap(0, 1),
+            Sx(2),
+        ],
+    ];
+    for gates in lists {
+        for flags in [0, RELABEL] {
+            for tag in [EXACT, ANGLED] {
+                out.plain(tag, &of(4, flags, gates.clone()));
+            }
+        }
+    }
+}
