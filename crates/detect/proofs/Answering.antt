@@ -1,0 +1,111 @@
+-- Question 10 and the operations: the report's number of operations is that of the program, which is what is written; and a slice made zero. Assumes nothing.
+use mathlib.Core.Path.{_≡_, refl, sym, ap, ap₂, _∙_}
+use mathlib.Core.Bool.{Bool, true, false, cond}
+use mathlib.Core.List.{List, [], _∷_}
+use Prim.Native.Nat.{ℕ, _+_, _*_, _≤_, _<_}
+use native.Mathlib.Omega.{arith}
+use lib.Dec.{eqb, ltb}
+use lib.ListN.{length, getD, List·getD-eq-default}
+use lib.Ieee.{Float}
+use borrow.Author.Tests.{lt-ltb, le-ltb}
+use Rattle.laws.specs.Slices.{filled}
+use Rattle.laws.proofs.Slices.{filled-over}
+use Rattle.tape.specs.declared.header.Header.{Header}
+use Rattle.tape.specs.declared.gates.Gate.{Gate}
+use Rattle.detect.specs.declared.report.Report.{Report}
+use Rattle.detect.specs.Operation.{Operation, allPlaces, written}
+use Rattle.detect.specs.Emit.{operationsOf}
+use Rattle.detect.specs.Counts.{countsOf}
+use Rattle.detect.specs.Records.{itemsIn, modesIn}
+use Rattle.detect.specs.Report.{freeOf, reportOf}
+use Rattle.detect.specs.Compile.{itemsOf, modeOf, tallyOf, reportedOf, programOf, refusal, done, answerOf, writtenOf}
+use Rattle.detect.specs.Program.{Detected}
+use Rattle.detect.proofs.Placing.{length-all, placed-none}
+use Rattle.detect.proofs.Emitting.{counts-operations, operations-same}
+
+-- ---- a slice made zero
+
+pub filled-whole : {A : Type 0} (v d : A) (l m : List A) → length m ≡ length l → filled (length m) v m ≡ filled (length l) v l
+filled-whole v d l m e =
+    ap (λ k. filled k v m) e
+    ∙ filled-over (length l) v d l m e (λ i h. List·getD-eq-default m d {n = i} (omega (arith, e, h)) ∙ sym (List·getD-eq-default l d {n = i} h))
+
+-- ---- question 10
+
+module _ (os : List Operation) where
+  pub answer-short : (o : ℕ) (r : Report) → o < 18 * length os → answerOf o r os ≡ refusal 10 0
+  unfolding answerOf
+  answer-short o r h = rw (lt-ltb o (18 * length os) h)
+
+  pub answer-long : (o : ℕ) (r : Report) → 18 * length os ≤ o → answerOf o r os ≡ done r
+  unfolding answerOf
+  answer-long o r h = rw (le-ltb o (18 * length os) h)
+
+  pub written-short : (l : List Float) → length l < 18 * length os → writtenOf os l ≡ l
+  unfolding writtenOf
+  written-short l h = rw (lt-ltb (length l) (18 * length os) h)
+
+  pub written-long : (l : List Float) → 18 * length os ≤ length l → writtenOf os l ≡ written os l
+  unfolding writtenOf
+  written-long l h = rw (le-ltb (length l) (18 * length os) h)
+
+-- ---- the report's numbers
+
+written-none : (l : List Float) → written [] l ≡ l
+unfolding allPlaces
+written-none l = placed-none 0 l
+
+module _ (h : Header) (gs : List Gate) where
+  tally-operations : tallyOf h gs .operations ≡ length (operationsOf (modeOf h gs) (itemsOf h gs .items))
+  unfolding tallyOf
+  tally-operations = counts-operations (h .tolerance) (modeOf h gs) (itemsOf h gs .items)
+
+  no-program : freeOf (tallyOf h gs) ≡ false → programOf h gs ≡ []
+  unfolding programOf
+  no-program e = rw e refl
+
+  pub reported-free : reportedOf h gs .free ≡ freeOf (tallyOf h gs)
+  unfolding reportedOf reportOf
+  reported-free = refl
+
+  pub reported-operations : reportedOf h gs .operations ≡ length (programOf h gs)
+  unfolding reportedOf reportOf programOf
+  reported-operations = go (freeOf (tallyOf h gs))
+    where
+      go : (t : Bool) → cond t (tallyOf h gs .operations) 0 ≡ length (cond t (operationsOf (modeOf h gs) (itemsOf h gs .items)) [])
+      go true = tally-operations
+      go false = refl
+
+  -- ---- what is written
+
+  module _ (g : ℕ) (xs ys : List Float) (us vs : List ℕ) (r : Report) (d : Detected h gs g xs ys us vs r) where
+    emits : operationsOf (modesIn vs) (itemsIn ys vs (g + h .n)) ≡ operationsOf (modeOf h gs) (itemsOf h gs .items)
+    emits = operations-same (h .n) (modesIn vs) (modeOf h gs) (d .modes) (itemsIn ys vs (g + h .n)) (d .held .below) ∙ ap (operationsOf (modeOf h gs)) (d .items)
+
+    free-is : r .free ≡ freeOf (tallyOf h gs)
+    free-is = ap (λ r. r .free) (d .report) ∙ reported-free
+
+    number-is : r .operations ≡ length (programOf h gs)
+    number-is = ap (λ r. r .operations) (d .report) ∙ reported-operations
+
+    -- where nothing is bad the program is the items' operations
+    program-is : r .free ≡ true → programOf h gs ≡ operationsOf (modesIn vs) (itemsIn ys vs (g + h .n))
+    unfolding programOf
+    program-is e = rw (sym free-is ∙ e) (sym emits)
+
+    pub too-short : (o : ℕ) → o < 18 * r .operations → o < 18 * length (programOf h gs)
+    too-short o k = omega (arith, k, number-is)
+
+    pub long-enough : (o : ℕ) → 18 * r .operations ≤ o → 18 * length (programOf h gs) ≤ o
+    long-enough o k = omega (arith, k, number-is)
+
+    pub emits-fit : (o : ℕ) → 18 * r .operations ≤ o → r .free ≡ true → length (allPlaces (operationsOf (modesIn vs) (itemsIn ys vs (g + h .n)))) ≤ o
+    emits-fit o k e =
+        omega (arith, long-enough o k, length-all (operationsOf (modesIn vs) (itemsIn ys vs (g + h .n))), ap length (program-is e))
+
+    pub writes : (l : List Float) → cond (r .free) (written (operationsOf (modesIn vs) (itemsIn ys vs (g + h .n))) l) l ≡ written (programOf h gs) l
+    writes l = go (r .free) refl
+      where
+        go : (t : Bool) → r .free ≡ t → cond t (written (operationsOf (modesIn vs) (itemsIn ys vs (g + h .n))) l) l ≡ written (programOf h gs) l
+        go true e = ap (λ os. written os l) (sym (program-is e))
+        go false e = sym (ap (λ os. written os l) (no-program (sym free-is ∙ e)) ∙ written-none l)

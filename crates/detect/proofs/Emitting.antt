@@ -1,0 +1,198 @@
+-- The operations of one record more; the number of an item's operations is its share's; modes count only on wires. Assumes nothing.
+use mathlib.Core.Path.{_≡_, refl, sym, ap, ap₂, _∙_}
+use mathlib.Core.Logic.{_⊎_, inl, inr}
+use mathlib.Core.Bool.{Bool, true, false, cond}
+use mathlib.Core.List.{List, [], _∷_, _++_}
+use Prim.Native.Nat.{ℕ, zero, suc, _+_, _*_, _≤_, _<_}
+use native.Mathlib.Numerals.{add-one}
+use native.Mathlib.Omega.{arith}
+use lib.Dec.{eqb}
+use lib.ListN.{length, length-append}
+use lib.Seq.{paste}
+use lib.Ieee.{Float, le}
+use borrow.Author.Tests.{ne-eqb}
+use Rattle.laws.proofs.Cases.{eq-or-ne}
+use Rattle.gate.specs.Complex.{f0}
+use Rattle.gate.specs.declared.matrix.Mat4.{Mat4}
+use Rattle.work.specs.Marks.{markAt}
+use Rattle.work.specs.Columns.{kindColumn}
+use Rattle.majorana.specs.Diagonal.{phaseAOf, phaseBOf, interactionOf, unitOf, rotationOf}
+use Rattle.majorana.specs.Majorana.{majoranaMap1Of, majoranaMap2Of}
+use Rattle.majorana.specs.Numbers.{commutesJ2Of}
+use Rattle.majorana.specs.declared.diagonal.Rotation.{Rotation}
+use Rattle.majorana.specs.declared.diagonal.Rotation.the-variants.{By, Nothing}
+use Rattle.majorana.specs.declared.maps.Map2.{Map2}
+use Rattle.majorana.specs.declared.maps.Mapped2.{Mapped2}
+use Rattle.order.specs.Arrangement.{besideOf}
+use Rattle.resolve.specs.Items as Items
+use Rattle.resolve.specs.Items.{Item}
+use Rattle.detect.specs.Operation.{Operation, one, two, interaction, onePlaces, placesOf, allPlaces, Put}
+use Rattle.detect.specs.Emit.{orientedOf, lowerOf, rotated, rotationsOf, twoOperations, itemOperations, operationsOf}
+use Rattle.detect.specs.Counts.{gaussian, interacting, bad, apart, oneShare, adjacentShare, matchShare, turned, turnsIn, twoShare, plusOf, shareOf, countedOnto, countsOf}
+use Rattle.detect.specs.Records.{isItemOf, recordItem, itemsIn, modesIn, ItemBelow, ItemsBelow}
+use Rattle.detect.proofs.Items.{items-more, items-same, items-none}
+use Rattle.detect.proofs.Placing.{all-append, one-long, put-none, put-one, put-length, put-both}
+
+-- ---- one record more
+
+module _ (xs : List Float) (us : List ℕ) (pos : ℕ → ℕ) where
+  -- the operations of the first i records
+  abbrev pub emitted : ℕ → List Operation
+  emitted i = operationsOf pos (itemsIn xs us i)
+
+  pub emitted-none : emitted 0 ≡ []
+  unfolding operationsOf
+  emitted-none = ap (operationsOf pos) (items-none xs us)
+
+  pub emitted-more : (i : ℕ) → isItemOf (markAt us i kindColumn) ≡ true
+      → emitted (i + 1) ≡ emitted i ++ itemOperations pos (length (itemsIn xs us i)) (recordItem xs us i)
+  unfolding operationsOf
+  emitted-more i e = ap (operationsOf pos) (items-more xs us i e)
+
+  pub emitted-same : (i : ℕ) → isItemOf (markAt us i kindColumn) ≡ false → emitted (i + 1) ≡ emitted i
+  emitted-same i e = ap (operationsOf pos) (items-same xs us i e)
+
+  -- what is written grows
+  grows : (i : ℕ) (b : Bool) → isItemOf (markAt us i kindColumn) ≡ b → length (allPlaces (emitted i)) ≤ length (allPlaces (emitted (i + 1)))
+  grows i true e =
+      let more = ap (λ os. length (allPlaces os)) (emitted-more i e) in
+      let x = itemOperations pos (length (itemsIn xs us i)) (recordItem xs us i) in
+      omega (arith, more, ap length (all-append (emitted i) x), length-append (allPlaces (emitted i)) (allPlaces x))
+  grows i false e = omega (arith, ap (λ os. length (allPlaces os)) (emitted-same i e))
+
+  pub emitted-fits : (i m : ℕ) → i ≤ m → length (allPlaces (emitted i)) ≤ length (allPlaces (emitted m))
+  emitted-fits i zero h = let z : i ≡ 0 = omega arith in rw z (omega arith)
+  emitted-fits i (suc m) h = go (eq-or-ne i (suc m)) (λ l. emitted-fits i m l)
+    where
+      go : (i ≡ suc m) ⊎ (i ≡ suc m → ⊥) → (i ≤ m → length (allPlaces (emitted i)) ≤ length (allPlaces (emitted m))) → length (allPlaces (emitted i)) ≤ length (allPlaces (emitted (suc m)))
+      go (inl e) ih = rw e (omega arith)
+      go (inr ne) ih =
+          let step : length (allPlaces (emitted m)) ≤ length (allPlaces (emitted (suc m))) = rw add-one at (grows m (isItemOf (markAt us m kindColumn)) refl) in
+          omega (arith, ih (omega (arith, ne)), step)
+
+-- ---- the number of operations
+
+turned-is : (k : ℕ) (x : Rotation) → turned x ≡ length (rotated k x)
+turned-is k (By q) = refl
+turned-is k Nothing = refl
+
+pub turns-is : (i j : ℕ) (v : Mat4) → turnsIn v ≡ length (rotationsOf i j v)
+unfolding turnsIn rotationsOf
+turns-is i j v =
+    let a = rotationOf (phaseAOf v) in
+    let b = rotationOf (phaseBOf v) in
+    ap₂ _+_ (turned-is i a) (turned-is j b) ∙ sym (length-append (rotated i a) (rotated j b))
+
+one-operations : (tol : Float) (m : Mapped2) → oneShare tol m .operations ≡ 1
+unfolding oneShare
+one-operations tol m = go (le (m .residual) tol)
+  where
+    go : (t : Bool) → cond t (gaussian 0 1 (m .residual) (commutesJ2Of (m .q))) (bad 0 1 (m .residual)) .operations ≡ 1
+    go true = refl
+    go false = refl
+
+match-operations : (i j : ℕ) (r : Float) (v : Mat4) → matchShare i j r v .operations ≡ 1
+unfolding matchShare adjacentShare
+match-operations i j r v = go (besideOf i j)
+  where
+    go : (t : Bool) → cond t (adjacentShare r (majoranaMap2Of (orientedOf i j v))) apart .operations ≡ 1
+    go true = refl
+    go false = refl
+
+two-operations : (block kind i j : ℕ) (r : Float) (v : Mat4) → twoShare kind i j r v .operations ≡ length (twoOperations block kind i j v)
+unfolding twoShare twoOperations
+two-operations block kind i j r v = go (eqb kind 5) (eqb kind 6) (eqb kind 7)
+  where
+    go : (a b c : Bool) → cond a (matchShare i j r v) (cond b (gaussian 1 (turnsIn v) f0 true) (cond c (interacting (turnsIn v + 1)) (bad 1 0 r))) .operations
+        ≡ length (cond a (two (lowerOf i j) (majoranaMap2Of (orientedOf i j v) .q) ∷ []) (cond b (rotationsOf i j v) (cond c (rotationsOf i j v ++ (interaction i block j (unitOf (interactionOf v)) ∷ [])) [])))
+    go true b c = match-operations i j r v
+    go false true c = turns-is i j v
+    go false false true = omega (arith, turns-is i j v, length-append (rotationsOf i j v) (interaction i block j (unitOf (interactionOf v)) ∷ []))
+    go false false false = refl
+
+module _ (tol : Float) (pos : ℕ → ℕ) where
+  item-operations : (block : ℕ) (x : Item) → shareOf tol pos x .operations ≡ length (itemOperations pos block x)
+  item-operations block (Items.one w u) = one-operations tol (majoranaMap1Of u)
+  item-operations block (Items.two kind a b r v) = two-operations block kind (pos a) (pos b) r v
+  item-operations block Items.opaque = refl
+
+  -- the counts have the number of operations
+  pub counts-operations : (l : List Item) → countsOf tol pos l .operations ≡ length (operationsOf pos l)
+  unfolding countedOnto operationsOf plusOf
+  counts-operations [] = refl
+  counts-operations (x ∷ l) =
+      omega (arith, counts-operations l, item-operations (length l) x, length-append (operationsOf pos l) (itemOperations pos (length l) x))
+
+-- ---- modes
+
+-- only the modes of wires count
+module _ (n : ℕ) (pos pos′ : ℕ → ℕ) (same : (w : ℕ) → w < n → pos w ≡ pos′ w) where
+  item-same : (block : ℕ) (x : Item) → ItemBelow n x → itemOperations pos block x ≡ itemOperations pos′ block x
+  item-same block (Items.one w u) h = ap (λ k. one k (majoranaMap1Of u .q) ∷ []) (same w h)
+  item-same block (Items.two kind a b r v) h = ap₂ (λ i j. twoOperations block kind i j v) (same a (h .0)) (same b (h .1))
+  item-same block Items.opaque h = refl
+
+  pub operations-same : (l : List Item) → ItemsBelow n l → operationsOf pos l ≡ operationsOf pos′ l
+  unfolding operationsOf ItemsBelow
+  operations-same [] h = refl
+  operations-same (x ∷ l) h = ap₂ _++_ (operations-same l (h .1)) (item-same (length l) x (h .0))
+
+  share-same : (tol : Float) (x : Item) → ItemBelow n x → shareOf tol pos x ≡ shareOf tol pos′ x
+  share-same tol (Items.one w u) h = refl
+  share-same tol (Items.two kind a b r v) h = ap₂ (λ i j. twoShare kind i j r v) (same a (h .0)) (same b (h .1))
+  share-same tol Items.opaque h = refl
+
+  pub counts-same : (tol : Float) (l : List Item) → ItemsBelow n l → countsOf tol pos l ≡ countsOf tol pos′ l
+  unfolding countedOnto ItemsBelow
+  counts-same tol [] h = refl
+  counts-same tol (x ∷ l) h = ap₂ plusOf (counts-same tol l (h .1)) (share-same tol x (h .0))
+
+-- ---- by kind
+
+module _ (block kind i j : ℕ) (v : Mat4) where
+  pub two-match : kind ≡ 5 → twoOperations block kind i j v ≡ two (lowerOf i j) (majoranaMap2Of (orientedOf i j v) .q) ∷ []
+  unfolding twoOperations
+  two-match e = rw e refl
+
+  pub two-diagonal : kind ≡ 6 → twoOperations block kind i j v ≡ rotationsOf i j v
+  unfolding twoOperations
+  two-diagonal e = rw e refl
+
+  pub two-interaction : kind ≡ 7 → twoOperations block kind i j v ≡ rotationsOf i j v ++ (interaction i block j (unitOf (interactionOf v)) ∷ [])
+  unfolding twoOperations
+  two-interaction e = rw e refl
+
+  pub two-neither : (kind ≡ 5 → ⊥) → (kind ≡ 6 → ⊥) → (kind ≡ 7 → ⊥) → twoOperations block kind i j v ≡ []
+  unfolding twoOperations
+  two-neither a b c = rw (ne-eqb kind 5 a, ne-eqb kind 6 b, ne-eqb kind 7 c)
+
+-- ---- rotations
+
+module _ {q : Map2} (k : ℕ) (x : Rotation) (e : x ≡ By q) where
+  pub by-long : length (allPlaces (rotated k x)) ≡ 18
+  by-long = rw e (one-long (one k q))
+
+  pub put-by : (p : ℕ) (l m y : List Float) → y ≡ onePlaces k q → m ≡ paste l p y 18 → Put (rotated k x) p l m (p + 18)
+  unfolding placesOf
+  put-by p l m y h g = rw e (put-one p l (one k q) m y h g)
+
+pub put-nothing : (k : ℕ) (x : Rotation) (p : ℕ) (l : List Float) → x ≡ Nothing → Put (rotated k x) p l l p
+put-nothing k x p l e = rw e (put-none p l)
+
+-- ---- a turn of the loop
+
+module _ (xs : List Float) (us : List ℕ) (pos : ℕ → ℕ) (i p r block : ℕ) (l m m′ : List Float)
+    (is : isItemOf (markAt us i kindColumn) ≡ true) (sofar : Put (emitted xs us pos i) 0 l m p) (number : block ≡ length (itemsIn xs us i))
+    (new : Put (itemOperations pos block (recordItem xs us i)) p m m′ r)
+    (room : length (allPlaces (emitted xs us pos i ++ itemOperations pos (length (itemsIn xs us i)) (recordItem xs us i))) ≤ length l) where
+  all : Put (emitted xs us pos i ++ itemOperations pos (length (itemsIn xs us i)) (recordItem xs us i)) 0 l m′ r
+  all = put-both 0 l (emitted xs us pos i) (itemOperations pos (length (itemsIn xs us i)) (recordItem xs us i)) (omega (arith, room)) m m′ p r sofar (rw number at new)
+
+  pub turn-put : Put (emitted xs us pos (i + 1)) 0 l m′ r
+  turn-put = rw (emitted-more xs us pos i is) all
+
+  pub turn-number : block + 1 ≡ length (itemsIn xs us (i + 1))
+  turn-number = omega (arith, number, ap length (items-more xs us i is))
+
+  pub turn-length : length m′ ≡ length l
+  turn-length = put-length 0 l (emitted xs us pos i ++ itemOperations pos (length (itemsIn xs us i)) (recordItem xs us i)) m′ r all (omega (arith, room))

@@ -1,0 +1,97 @@
+-- `detect::questions::compile_in` meets its contract: question 10 is asked once the operations are counted, and before they are written. Assumes nothing.
+use mathlib.Core.Path.{_≡_, refl, sym, ap, _∙_}
+use Prim.Native.Nat.{ℕ, _+_, _*_, _≤_, _<_}
+use native.Mathlib.Omega.{arith}
+use borrow.Author.Needs.{needs}
+use lib.ListN.{length}
+use lib.Ieee.{nan}
+use Rattle.gate.specs.Complex.{f0}
+use Rattle.tape.specs.Parse.{gatesOf}
+use Rattle.detect.specs.Compile.{programOf, reportedOf, done}
+use Rattle.detect.proofs.Answering.{filled-whole, answer-short, answer-long, written-short, written-long, too-short, long-enough, emits-fit, writes}
+use Rattle.detect.proofs.questions.compile_in.Statement.{statement}
+use Rattle.detect.proofs.questions.compile_in.Tie as tie
+
+detect-requires : tie.Need-detect-requires
+detect-requires c κs =
+    let s = c .before .before .before .before .before .before in
+    let h = s .pre in
+    (h .0, record { floats = omega (arith, h .3); marks = omega (arith, h .4); few = omega (arith, h .1, h .2) }, h .1)
+
+returns : tie.Need-returns
+returns c =
+    let t = c .before .before .before .before .before .before .before .before .before in
+    let d = t .before .before .before .before .before .before in
+    let s = d .before .before .before .before .before .before .before in
+    let a = s .args in
+    let gs = gatesOf (a .tape .now) in
+    let p = d .detect .ensures in
+    let short = too-short (a .h) gs (a .g) (a .w .now) (d .detect .last .1 .1 .1 .0) (a .u .now) (d .detect .last .1 .1 .1 .1 .0) (d .detect .result) p (length (a .ops .now)) (t .if1 .taken) in (
+      c .refuse .ensures ∙ sym (answer-short (programOf (a .h) gs) (length (a .ops .now)) (reportedOf (a .h) gs) short),
+      (
+        c .before .before .before .before .before .before .before .clear-floats .ensures ∙ filled-whole f0 nan (a .w .now) (d .detect .last .1 .1 .1 .0) (p .size),
+        (
+          c .before .before .before .clear-marks .ensures ∙ filled-whole 0 0 (a .u .now) (d .detect .last .1 .1 .1 .1 .0) (p .marks),
+          sym (written-short (programOf (a .h) gs) (a .ops .now) short),
+        ),
+      ),
+    )
+
+add-emit : tie.Need-add-emit
+add-emit c =
+    let s = c .before .before .before .before .before .before .before .before .before .before .before .before .before .before .before in
+    omega (arith, s .pre .1, s .pre .2)
+
+emit-requires : tie.Need-emit-requires
+emit-requires c κs =
+    let e = c .before .before .before in
+    let d = e .before .before .before .before .before .before in
+    let s = d .before .before .before .before .before .before .before in
+    let a = s .args in
+    let p = d .detect .ensures in (
+      p .held,
+      emits-fit (a .h) (gatesOf (a .tape .now)) (a .g) (a .w .now) (d .detect .last .1 .1 .1 .0) (a .u .now) (d .detect .last .1 .1 .1 .1 .0) (d .detect .result) p (length (a .ops .now)) (e .if1 .left),
+    )
+
+returns-2 : tie.Need-returns-2
+returns-2 c =
+    let e = c .before .before .before .before .before .before .before .before .before .before .before .before .before .before in
+    let d = e .before .before .before .before .before .before in
+    let s = d .before .before .before .before .before .before .before in
+    let a = s .args in
+    let gs = gatesOf (a .tape .now) in
+    let p = d .detect .ensures in
+    let long = long-enough (a .h) gs (a .g) (a .w .now) (d .detect .last .1 .1 .1 .0) (a .u .now) (d .detect .last .1 .1 .1 .1 .0) (d .detect .result) p (length (a .ops .now)) (e .if1 .left) in (
+      ap done (p .report) ∙ sym (answer-long (programOf (a .h) gs) (length (a .ops .now)) (reportedOf (a .h) gs) long),
+      (
+        c .before .before .before .before .before .before .clear-floats2 .ensures ∙ filled-whole f0 nan (a .w .now) (d .detect .last .1 .1 .1 .0) (p .size),
+        (
+          c .before .before .clear-marks2 .ensures ∙ filled-whole 0 0 (a .u .now) (d .detect .last .1 .1 .1 .1 .0) (p .marks),
+          c .before .before .before .before .before .before .before .before .before .before .emit .ensures
+              ∙ writes (a .h) gs (a .g) (a .w .now) (d .detect .last .1 .1 .1 .0) (a .u .now) (d .detect .last .1 .1 .1 .1 .0) (d .detect .result) p (a .ops .now)
+              ∙ sym (written-long (programOf (a .h) gs) (a .ops .now) long),
+        ),
+      ),
+    )
+
+pub compile-in-spec : {M : Type 1} → statement M
+compile-in-spec =
+    tie.close
+    (tie.spec
+    detect-requires
+    (λ c. search needs)
+    (λ c. search needs)
+    (λ c κs. tt)
+    (λ c κs. tt)
+    (λ c κs. tt)
+    (λ c. search needs)
+    (λ c. search needs)
+    returns
+    add-emit
+    emit-requires
+    (λ c κs. tt)
+    (λ c κs. tt)
+    (λ c. search needs)
+    (λ c. search needs)
+    (λ c. search needs)
+    returns-2)

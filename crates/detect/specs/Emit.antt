@@ -1,0 +1,59 @@
+-- Emission (000, the loop of `compile`): what each item becomes, given the mode of each wire. Items are the newest first, operations in time order.
+-- Said of lists without bad blocks: where there is one, operations are empty. Assumes nothing.
+use mathlib.Core.Bool.{cond}
+use mathlib.Core.List.{List, [], _∷_, _++_}
+use Prim.Native.Nat.{ℕ}
+use lib.Dec.{eqb, ltb}
+use lib.ListN.{length}
+use Rattle.gate.specs.Matrix.{mat4SwapQubitsOf}
+use Rattle.gate.specs.declared.complex.Complex.{Complex}
+use Rattle.gate.specs.declared.matrix.Mat4.{Mat4}
+use Rattle.work.specs.Columns.{matchItem, diagonalItem, interactionItem}
+use Rattle.majorana.specs.Majorana.{majoranaMap1Of, majoranaMap2Of}
+use Rattle.majorana.specs.Diagonal.{phaseAOf, phaseBOf, interactionOf, unitOf, rotationOf}
+use Rattle.majorana.specs.declared.diagonal.Rotation.{Rotation}
+use Rattle.majorana.specs.declared.diagonal.Rotation.the-variants.{By, Nothing}
+use Rattle.resolve.specs.Items as Items
+use Rattle.resolve.specs.Items.{Item}
+use Rattle.detect.specs.Operation.{Operation, one, two, interaction}
+
+-- ---- matchgates
+
+-- v in the order's orientation: the lower mode is the first qubit
+unfoldable pub orientedOf : ℕ → ℕ → Mat4 → Mat4
+orientedOf i j v = cond (ltb i j) v (mat4SwapQubitsOf v)
+
+-- the lower mode
+abbrev pub lowerOf : ℕ → ℕ → ℕ
+lowerOf i j = cond (ltb i j) i j
+
+-- ---- diagonal blocks
+
+-- the rotation of mode k, if there is one
+abbrev pub rotated : ℕ → Rotation → List Operation
+rotated k (By q) = one k q ∷ []
+rotated k Nothing = []
+
+-- "rotations of a diagonal block": for the first wire, then for the second
+unfoldable pub rotationsOf : ℕ → ℕ → Mat4 → List Operation
+rotationsOf i j v = rotated i (rotationOf (phaseAOf v)) ++ rotated j (rotationOf (phaseBOf v))
+
+-- ---- items
+
+-- an item on two wires, of modes i and j; it is block number `block`
+unfoldable pub twoOperations : ℕ → ℕ → ℕ → ℕ → Mat4 → List Operation
+twoOperations block kind i j v =
+    cond (eqb kind matchItem) (two (lowerOf i j) (majoranaMap2Of (orientedOf i j v) .q) ∷ [])
+    (cond (eqb kind diagonalItem) (rotationsOf i j v)
+    (cond (eqb kind interactionItem) (rotationsOf i j v ++ (interaction i block j (unitOf (interactionOf v)) ∷ [])) []))
+
+module _ (pos : ℕ → ℕ) where
+  abbrev pub itemOperations : ℕ → Item → List Operation
+  itemOperations block (Items.one w u) = one (pos w) (majoranaMap1Of u .q) ∷ []
+  itemOperations block (Items.two kind a b r v) = twoOperations block kind (pos a) (pos b) v
+  itemOperations block Items.opaque = []
+
+  -- "in item order": the block's number is that of the items before it
+  unfoldable pub operationsOf : List Item → List Operation
+  operationsOf [] = []
+  operationsOf (x ∷ xs) = operationsOf xs ++ itemOperations (length xs) x

@@ -1,0 +1,19 @@
+-- What the lent work holds once the report is made: the items, and the mode of each wire. Assumes nothing.
+use mathlib.Core.Path.{_≡_}
+use mathlib.Core.List.{List}
+use Prim.Native.Nat.{ℕ, _+_, _<_}
+use lib.ListN.{length}
+use lib.Ieee.{Float}
+use Rattle.tape.specs.declared.header.Header.{Header}
+use Rattle.tape.specs.declared.gates.Gate.{Gate}
+use Rattle.detect.specs.declared.report.Report.{Report}
+use Rattle.detect.specs.Records.{itemsIn, modesIn, Held}
+use Rattle.detect.specs.Compile.{itemsOf, modeOf, reportedOf}
+
+pub record Detected (h : Header) (gs : List Gate) (g : ℕ) (xs ys : List Float) (us vs : List ℕ) (r : Report) : Type 0 where
+  pub report : r ≡ reportedOf h gs
+  pub size : length ys ≡ length xs
+  pub marks : length vs ≡ length us
+  pub items : itemsIn ys vs (g + h .n) ≡ itemsOf h gs .items
+  pub modes : (w : ℕ) → w < h .n → modesIn vs w ≡ modeOf h gs w
+  pub held : Held ys vs (g + h .n) (h .n)

@@ -1,0 +1,17 @@
+// The detector's end (`compile` of the original's detect.rs, from the items on): the report, the
+// operations, and the public `compile`, by the questions 1 to 10.
+
+mod count; // each item's share of the report, and their sum
+mod emit; // the operations
+mod tables; // order, path starts and modes as tables
+mod report; // the report and the answer
+mod program; // the report of an accepted tape
+mod questions; // the questions 1 to 10
+
+pub use count::Counts;
+pub use emit::emit_all;
+pub use program::detect;
+pub use questions::compile;
+pub use report::Answer;
+pub use report::Compiled;
+pub use report::Report;

@@ -1,0 +1,138 @@
+// The questions 1 to 10, the report and the operations.
+ghost use mathlib.Core.Path.{_≡_};
+ghost use mathlib.Core.Bool.{true, cond};
+ghost use Prim.Native.Nat.{_+_, _*_, _<_, _≤_};
+ghost use lib.ListN.{length};
+ghost use Rattle.laws.specs.Slices.{filled};
+ghost use Rattle.gate.specs.Complex.{f0};
+ghost use Rattle.tape.specs.Bounds.{maxQubits, maxGates};
+ghost use Rattle.tape.specs.Parse.{gatesOf};
+ghost use Rattle.fuse.specs.Slotted.{Gates};
+ghost use Rattle.detect.specs.Operation.{allPlaces, written};
+ghost use Rattle.detect.specs.Emit.{operationsOf};
+ghost use Rattle.detect.specs.Records.{itemsIn, modesIn, Held};
+ghost use Rattle.detect.specs.Compile.{floatsOf, marksOf, hasWork, answerOf, checkedAnswer, writtenOf, reportedOf, programOf, compiled, compiledWork, compiledMarks, compiledOps};
+use crate::emit::OP_PLACES;
+use crate::emit::emit_all;
+use crate::program::detect;
+use crate::report::Answer;
+use crate::report::Compiled;
+use crate::report::Report;
+use crate::report::refuse;
+use tape::Checked;
+use tape::Header;
+use tape::check_tape;
+
+fn clear_floats(w: &mut [f64])
+    ensures { λ _. ⌜ now (w .exit) ≡ filled (length (now (w .entry))) f0 (now (w .entry)) ⌝ }
+{
+    let mut i = 0;
+    while i < w.len() {
+        w[i] = 0.0;
+        i += 1;
+    }
+}
+
+fn clear_marks(u: &mut [u32])
+    ensures { λ _. ⌜ now (u .exit) ≡ filled (length (now (u .entry))) 0 (now (u .entry)) ⌝ }
+{
+    let mut i = 0;
+    while i < u.len() {
+        u[i] = 0;
+        i += 1;
+    }
+}
+
+// The operations of the first m records, if no block is bad.
+fn emit(free: bool, w: &[f64], u: &[u32], m: usize, n: usize, ops: &mut [f64])
+    requires { ⌜ Held (now w) (now u) m n × (free ≡ true → length (allPlaces (operationsOf (modesIn (now u)) (itemsIn (now w) (now u) m))) ≤ length (now ops)) ⌝ }
+    ensures { λ _. ⌜ now (ops .exit) ≡ cond free (written (operationsOf (modesIn (now (u .entry))) (itemsIn (now (w .entry)) (now (u .entry)) m)) (now (ops .entry))) (now (ops .entry)) ⌝ }
+{
+    if free {
+        emit_all(w, u, m, n, ops);
+    }
+}
+
+// Report, question 10, operations: what is lent is exactly the work of g gates and n qubits, and is zero afterwards.
+fn compile_in(
+    tape: &[u8],
+    h: Header,
+    g: usize,
+    w: &mut [f64],
+    u: &mut [u32],
+    ops: &mut [f64],
+) -> Compiled
+    requires { ⌜ Gates (now tape) g (h .n) × (h .n ≤ maxQubits) × (g ≤ maxGates) × (length (now w) ≡ floatsOf g (h .n)) × (length (now u) ≡ marksOf g (h .n)) ⌝ }
+    ensures answer { λ r. ⌜ r ≡ answerOf (length (now (ops .entry))) (reportedOf h (gatesOf (now (tape .entry)))) (programOf h (gatesOf (now (tape .entry)))) ⌝ }
+    ensures work { λ _. ⌜ now (w .exit) ≡ filled (length (now (w .entry))) f0 (now (w .entry)) ⌝ }
+    ensures marks { λ _. ⌜ now (u .exit) ≡ filled (length (now (u .entry))) 0 (now (u .entry)) ⌝ }
+    ensures ops { λ _. ⌜ now (ops .exit) ≡ writtenOf (programOf h (gatesOf (now (tape .entry)))) (now (ops .entry)) ⌝ }
+{
+    let r = detect(tape, h, g, w, u);
+    if ops.len() < OP_PLACES * (r.operations as usize) {
+        clear_floats(w);
+        clear_marks(u);
+        return refuse(10, 0);
+    }
+    let n = h.n;
+    emit(r.free, w, u, g + n, n, ops);
+    clear_floats(w);
+    clear_marks(u);
+    Compiled {
+        answer: Answer::Done,
+        report: r,
+    }
+}
+
+// Question 9, for a tape that passes 1 to 8: only the work that it names is lent on.
+fn compile_checked(
+    tape: &[u8],
+    h: Header,
+    g: usize,
+    work: &mut [f64],
+    marks: &mut [u32],
+    ops: &mut [f64],
+) -> Compiled
+    requires { ⌜ Gates (now tape) g (h .n) × (h .n ≤ maxQubits) × (g ≤ maxGates) ⌝ }
+    ensures answer { λ r. ⌜ r ≡ checkedAnswer h (gatesOf (now (tape .entry))) g (length (now (work .entry))) (length (now (marks .entry))) (length (now (ops .entry))) ⌝ }
+    ensures work { λ _. ⌜ now (work .exit) ≡ cond (hasWork g (h .n) (length (now (work .entry))) (length (now (marks .entry)))) (filled (floatsOf g (h .n)) f0 (now (work .entry))) (now (work .entry)) ⌝ }
+    ensures marks { λ _. ⌜ now (marks .exit) ≡ cond (hasWork g (h .n) (length (now (work .entry))) (length (now (marks .entry)))) (filled (marksOf g (h .n)) 0 (now (marks .entry))) (now (marks .entry)) ⌝ }
+    ensures ops { λ _. ⌜ now (ops .exit) ≡ cond (hasWork g (h .n) (length (now (work .entry))) (length (now (marks .entry)))) (writtenOf (programOf h (gatesOf (now (tape .entry)))) (now (ops .entry))) (now (ops .entry)) ⌝ }
+{
+    let n = h.n;
+    let floats = 64 * (g + n);
+    let numbers = 32 * (g + n);
+    if work.len() < floats {
+        return refuse(9, 0);
+    }
+    if marks.len() < numbers {
+        return refuse(9, 0);
+    }
+    compile_in(
+        tape,
+        h,
+        g,
+        &mut work[0..floats],
+        &mut marks[0..numbers],
+        ops,
+    )
+}
+
+// The report and the operations of a tape. `work` and `marks` are lent to work in: from question 9 on the places that it names are zero afterwards,
+// whatever the answer. A refusal leaves the operations alone; blocks that are bad are reported, not refused.
+pub fn compile(tape: &[u8], work: &mut [f64], marks: &mut [u32], ops: &mut [f64]) -> Compiled
+    ensures answer { λ r. ⌜ r ≡ compiled (now (tape .entry)) (now (work .entry)) (now (marks .entry)) (now (ops .entry)) ⌝ }
+    ensures work { λ _. ⌜ now (work .exit) ≡ compiledWork (now (tape .entry)) (now (work .entry)) (now (marks .entry)) ⌝ }
+    ensures marks { λ _. ⌜ now (marks .exit) ≡ compiledMarks (now (tape .entry)) (now (work .entry)) (now (marks .entry)) ⌝ }
+    ensures ops { λ _. ⌜ now (ops .exit) ≡ compiledOps (now (tape .entry)) (now (work .entry)) (now (marks .entry)) (now (ops .entry)) ⌝ }
+{
+    let c = check_tape(tape);
+    match c {
+        Checked::Refused { number, place } => refuse(number, place),
+        Checked::Good {
+            header,
+            gates,
+            labels: _,
+        } => compile_checked(tape, header, gates, work, marks, ops),
+    }
+}

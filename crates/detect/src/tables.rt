@@ -1,0 +1,50 @@
+// Order, path starts and modes of the qubits as tables of fixed length.
+ghost use mathlib.Core.Path.{_≡_};
+ghost use Prim.Native.Nat.{ℕ, _+_, _*_, _<_, _≤_};
+ghost use Rattle.work.specs.Marks.{Records, column};
+ghost use Rattle.work.specs.Columns.{labColumn, contentColumn, posColumn};
+ghost use Rattle.tape.specs.Bounds.{maxQubits};
+ghost use Rattle.detect.specs.Report.{table};
+ghost use Rattle.detect.specs.Records.{qubitMode, ColumnBelow};
+use work::CONTENT;
+use work::LAB;
+use work::POS;
+use work::mark;
+
+// The first n marks of column c: the wire on each mode, the path starts.
+pub fn column_table(u: &[u32], n: usize, c: usize) -> [u16; 128]
+    requires { ⌜ Records (now u) n × (n ≤ maxQubits) × (c < 32) × ColumnBelow (now u) c n 65536 ⌝ }
+    ensures { λ r. ⌜ r ≡ table n (column c (now (u .entry))) ⌝ }
+{
+    let mut t = [0; 128];
+    let mut k = 0;
+    while k < n {
+        t[k] = mark(u, k, c) as u16;
+        k += 1;
+    }
+    t
+}
+
+// The mode of qubit q: of the wire that is in its slot.
+fn mode_of_qubit(u: &[u32], n: usize, q: usize) -> u32
+    requires { ⌜ (q < n) × Records (now u) n × ColumnBelow (now u) labColumn n n × ColumnBelow (now u) contentColumn n n × ColumnBelow (now u) posColumn n n ⌝ }
+    ensures { λ r. ⌜ (r ≡ qubitMode (now (u .entry)) q) × (r < n) ⌝ }
+{
+    let s = mark(u, q, LAB) as usize;
+    let w = mark(u, s, CONTENT) as usize;
+    mark(u, w, POS)
+}
+
+// The mode of each qubit.
+pub fn mode_table(u: &[u32], n: usize) -> [u16; 128]
+    requires { ⌜ Records (now u) n × (n ≤ maxQubits) × ColumnBelow (now u) labColumn n n × ColumnBelow (now u) contentColumn n n × ColumnBelow (now u) posColumn n n ⌝ }
+    ensures { λ r. ⌜ r ≡ table n (qubitMode (now (u .entry))) ⌝ }
+{
+    let mut t = [0; 128];
+    let mut q = 0;
+    while q < n {
+        t[q] = mode_of_qubit(u, n, q) as u16;
+        q += 1;
+    }
+    t
+}
