@@ -1,19 +1,22 @@
 -- Public `compile`: the questions 1 to 10 in their order, then the report and the operations of an accepted tape. Assumes nothing.
+use mathlib.Core.Path.{_≡_}
 use mathlib.Core.Bool.{Bool, cond}
 use mathlib.Core.List.{List, [], _∷_, _++_}
-use Prim.Native.Nat.{ℕ, _+_, _*_, _/_, _%_}
+use Prim.Native.Nat.{ℕ, _+_, _*_, _/_, _%_, _≤_}
 use lib.Dec.{eqb, ltb}
 use lib.ListN.{length, getD}
 use lib.Ieee.{Float}
 use Rattle.laws.specs.Slices.{filled}
 use Rattle.gate.specs.Complex.{f0}
 use Rattle.work.specs.Columns.{matchItem}
+use Rattle.tape.specs.Bounds.{maxQubits, maxGates}
 use Rattle.tape.specs.Parse.{Parsed, refused, accepted, parse}
 use Rattle.tape.specs.declared.header.Header.{Header}
 use Rattle.tape.specs.declared.gates.Gate.{Gate}
 use Rattle.order.specs.Weights.{Pair, pairOf}
 use Rattle.order.specs.Arrangement.{find}
 use Rattle.order.specs.Choice.{Arrangement, chooseOrderOf}
+use Rattle.fuse.specs.Slotted.{Gates}
 use Rattle.fuse.specs.Relabel.{Labelled, labelled, unlabelled}
 use Rattle.resolve.specs.Items as Items
 use Rattle.resolve.specs.Items.{Item}
@@ -95,12 +98,23 @@ done r = record { answer = Answer.Done; report = r }
 unfoldable pub answerOf : ℕ → Report → List Operation → Compiled
 answerOf o r os = cond (ltb o (opPlaces * length os)) (refusal 10 0) (done r)
 
+-- the operations are written where nothing is refused
+unfoldable pub writtenOf : List Operation → List Float → List Float
+writtenOf os l = cond (ltb (length l) (opPlaces * length os)) l (written os l)
+
 -- 9. Has work 64(G+n) f64 and 32(G+n) u32 places? w and u are there.
 abbrev pub hasWork : ℕ → ℕ → ℕ → ℕ → Bool
 hasWork g n w u = cond (ltb w (floatsOf g n)) Bool.false (cond (ltb u (marksOf g n)) Bool.false Bool.true)
 
 abbrev pub checkedAnswer : Header → List Gate → ℕ → ℕ → ℕ → ℕ → Compiled
 checkedAnswer h gs g w u o = cond (hasWork g (h .n) w u) (answerOf o (reportedOf h gs) (programOf h gs)) (refusal 9 0)
+
+-- the same, of the floats, the marks and the operations
+abbrev pub checkedLent : {A : Type 0} → ℕ → ℕ → ℕ → ℕ → (ℕ → ℕ → ℕ) → A → List A → List A
+checkedLent g n w u k v l = cond (hasWork g n w u) (filled (k g n) v l) l
+
+abbrev pub checkedOps : Header → List Gate → ℕ → ℕ → ℕ → List Float → List Float
+checkedOps h gs g w u l = cond (hasWork g (h .n) w u) (writtenOf (programOf h gs) l) l
 
 unfoldable pub compileOf : Parsed → ℕ → ℕ → ℕ → Compiled
 compileOf (refused number place) w u o = refusal number place
@@ -111,15 +125,11 @@ compileOf (accepted h c) w u o = checkedAnswer h (c .gates) (length (c .gates)) 
 -- "From here on those places are zero after every answer": l is the floats or the marks, k of which are made v
 unfoldable pub workAfter : {A : Type 0} → Parsed → ℕ → ℕ → (ℕ → ℕ → ℕ) → A → List A → List A
 workAfter (refused number place) w u k v l = l
-workAfter (accepted h c) w u k v l = cond (hasWork (length (c .gates)) (h .n) w u) (filled (k (length (c .gates)) (h .n)) v l) l
-
--- the operations are written where nothing is refused
-unfoldable pub writtenOf : List Operation → List Float → List Float
-writtenOf os l = cond (ltb (length l) (opPlaces * length os)) l (written os l)
+workAfter (accepted h c) w u k v l = checkedLent (length (c .gates)) (h .n) w u k v l
 
 unfoldable pub opsAfter : Parsed → ℕ → ℕ → List Float → List Float
 opsAfter (refused number place) w u l = l
-opsAfter (accepted h c) w u l = cond (hasWork (length (c .gates)) (h .n) w u) (writtenOf (programOf h (c .gates)) l) l
+opsAfter (accepted h c) w u l = checkedOps h (c .gates) (length (c .gates)) w u l
 
 -- ---- of the tape's bytes and the lent slices
 
@@ -135,3 +145,7 @@ compiledMarks t work marks = workAfter (parse t) (length work) (length marks) ma
 
 abbrev pub compiledOps : List ℕ → List Float → List ℕ → List Float → List Float
 compiledOps t work marks ops = opsAfter (parse t) (length work) (length marks) ops
+
+-- a tape of g gates that passes 1 to 8, and exactly the work that 9 names
+abbrev pub Lent : List ℕ → Header → ℕ → List Float → List ℕ → Type 0
+Lent t h g w u = Gates t g (h .n) × (h .n ≤ maxQubits) × (g ≤ maxGates) × (length w ≡ floatsOf g (h .n)) × (length u ≡ marksOf g (h .n))

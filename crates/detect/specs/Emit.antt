@@ -5,6 +5,7 @@ use mathlib.Core.List.{List, [], _∷_, _++_}
 use Prim.Native.Nat.{ℕ}
 use lib.Dec.{eqb, ltb}
 use lib.ListN.{length}
+use lib.Ieee.{Float}
 use Rattle.gate.specs.Matrix.{mat4SwapQubitsOf}
 use Rattle.gate.specs.declared.complex.Complex.{Complex}
 use Rattle.gate.specs.declared.matrix.Mat4.{Mat4}
@@ -15,6 +16,7 @@ use Rattle.majorana.specs.declared.diagonal.Rotation.{Rotation}
 use Rattle.majorana.specs.declared.diagonal.Rotation.the-variants.{By, Nothing}
 use Rattle.resolve.specs.Items as Items
 use Rattle.resolve.specs.Items.{Item}
+use Rattle.detect.specs.Records.{recordItem, itemsIn, modesIn}
 use Rattle.detect.specs.Operation.{Operation, one, two, interaction}
 
 -- ---- matchgates
@@ -57,3 +59,12 @@ module _ (pos : ℕ → ℕ) where
   unfoldable pub operationsOf : List Item → List Operation
   operationsOf [] = []
   operationsOf (x ∷ xs) = operationsOf xs ++ itemOperations (length xs) x
+
+-- ---- of the items in the lent work
+
+-- the operations of the item of record i, and of all items of the first m records
+abbrev pub operationsAt : List Float → List ℕ → ℕ → ℕ → List Operation
+operationsAt xs us block i = itemOperations (modesIn us) block (recordItem xs us i)
+
+abbrev pub operationsIn : List Float → List ℕ → ℕ → List Operation
+operationsIn xs us m = operationsOf (modesIn us) (itemsIn xs us m)

@@ -1,8 +1,8 @@
 -- What the contracts of `detect` speak of: 000's `compile`, from the items to the report and the operations. Definitions only.
 pub mod Operation
+pub mod Records
 pub mod Emit
 pub mod Counts
-pub mod Records
 pub mod Report
 pub mod Compile
 pub mod Program

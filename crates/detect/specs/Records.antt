@@ -8,6 +8,7 @@ use lib.ListN.{length}
 use lib.Ieee.{Float}
 use Rattle.work.specs.Marks.{markAt, column, Records}
 use Rattle.work.specs.Columns.{kindColumn, aColumn, bColumn, labColumn, contentColumn, posColumn, oneItem, matchItem, neitherItem, opaqueItem}
+use Rattle.tape.specs.Bounds.{maxQubits}
 use Rattle.fuse.specs.Layout.{matrix2Of, matrix4Of}
 use Rattle.detect.specs.declared.count.Counts.{Counts}
 use Rattle.resolve.specs.Items as Items
@@ -71,3 +72,16 @@ pub record Held (xs : List Float) (us : List ℕ) (m n : ℕ) : Type 0 where
   pub modes : Records us n
   pub few : m < 65536
   pub below : ItemsBelow n (itemsIn xs us m)
+
+-- the item of record i can be read: its places and those of its wires are there
+abbrev pub ItemThere : List Float → List ℕ → ℕ → ℕ → Type 0
+ItemThere xs us i n = (64 * i + 64 ≤ length xs) × Records us (i + 1) × Records us n × ItemBelow n (recordItem xs us i)
+
+-- slots, content and modes of n qubits can be read, for a table
+abbrev pub QubitsThere : List ℕ → ℕ → Type 0
+QubitsThere us n =
+    Records us n × (n ≤ maxQubits) × ColumnBelow us labColumn n n × ColumnBelow us contentColumn n n × ColumnBelow us posColumn n n
+
+-- for qubit q
+abbrev pub QubitThere : List ℕ → ℕ → ℕ → Type 0
+QubitThere us n q = (q < n) × Records us n × ColumnBelow us labColumn n n × ColumnBelow us contentColumn n n × ColumnBelow us posColumn n n

@@ -1,14 +1,11 @@
 // The report's counts: each item's share, and their sum in item order.
 ghost use mathlib.Core.Path.{_≡_};
 ghost use mathlib.Core.Bool.{_&&_};
-ghost use Prim.Native.Nat.{_+_, _*_, _<_, _≤_};
-ghost use lib.ListN.{length};
-ghost use Rattle.work.specs.Marks.{Records, markAt};
-ghost use Rattle.work.specs.Columns.{kindColumn};
+ghost use Prim.Native.Nat.{_≤_};
 ghost use Rattle.order.specs.Arrangement.{besideOf};
 ghost use Rattle.detect.specs.Emit.{orientedOf};
-ghost use Rattle.detect.specs.Counts.{gaussian, bad, oneShare, adjacentShare, matchShare, turned, turnsIn, twoShare, plusOf, shareOf, countedOnto, countsOf};
-ghost use Rattle.detect.specs.Records.{isItemOf, recordItem, itemsIn, modesIn, ItemBelow, Held, Small};
+ghost use Rattle.detect.specs.Counts.{gaussian, bad, oneShare, matchShare, turned, turnsIn, twoShare, plusOf, shareOf, countsOf};
+ghost use Rattle.detect.specs.Records.{isItemOf, recordItem, itemsIn, modesIn, ItemThere, Held, Small};
 use fuse::matrix2;
 use fuse::matrix4;
 use gate::Mat4;
@@ -214,7 +211,7 @@ pub fn is_item(kind: u32) -> bool
 
 // The share of the item in record i.
 fn share_at(w: &[f64], u: &[u32], i: usize, n: usize, tol: f64) -> Counts
-    requires { ⌜ (64 * i + 64 ≤ length (now w)) × Records (now u) (i + 1) × Records (now u) n × ItemBelow n (recordItem (now w) (now u) i) ⌝ }
+    requires { ⌜ ItemThere (now w) (now u) i n ⌝ }
     ensures { λ r. ⌜ r ≡ shareOf tol (modesIn (now (u .entry))) (recordItem (now (w .entry)) (now (u .entry)) i) ⌝ }
 {
     let kind = mark(u, i, KIND);

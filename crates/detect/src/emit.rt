@@ -1,13 +1,11 @@
 // The operations of the items, in item order, 18 places each.
 ghost use mathlib.Core.Path.{_≡_};
-ghost use mathlib.Core.List.{[], _∷_};
-ghost use Prim.Native.Nat.{_+_, _*_, _<_, _≤_};
+ghost use Prim.Native.Nat.{_+_, _≤_};
 ghost use lib.ListN.{length};
 ghost use lib.Seq.{paste};
-ghost use Rattle.work.specs.Marks.{Records};
 ghost use Rattle.detect.specs.Operation.{opPlaces, onePlaces, twoPlaces, interactionPlaces, allPlaces, written, Put};
-ghost use Rattle.detect.specs.Emit.{rotated, rotationsOf, lowerOf, twoOperations, itemOperations, operationsOf};
-ghost use Rattle.detect.specs.Records.{recordItem, itemsIn, modesIn, ItemBelow, Held};
+ghost use Rattle.detect.specs.Emit.{rotated, rotationsOf, lowerOf, twoOperations, operationsAt, operationsIn};
+ghost use Rattle.detect.specs.Records.{ItemThere, Held};
 use crate::count::is_item;
 use crate::count::oriented;
 use fuse::matrix2;
@@ -205,9 +203,9 @@ fn put_item(
     ops: &mut [f64],
     p: usize,
 ) -> usize
-    requires { ⌜ (64 * i + 64 ≤ length (now w)) × Records (now u) (i + 1) × Records (now u) n × ItemBelow n (recordItem (now w) (now u) i) ⌝ }
-    requires { ⌜ p + length (allPlaces (itemOperations (modesIn (now u)) block (recordItem (now w) (now u) i))) ≤ length (now ops) ⌝ }
-    ensures { λ r. ⌜ Put (itemOperations (modesIn (now (u .entry))) block (recordItem (now (w .entry)) (now (u .entry)) i)) p (now (ops .entry)) (now (ops .exit)) r ⌝ }
+    requires { ⌜ ItemThere (now w) (now u) i n ⌝ }
+    requires { ⌜ p + length (allPlaces (operationsAt (now w) (now u) block i)) ≤ length (now ops) ⌝ }
+    ensures { λ r. ⌜ Put (operationsAt (now (w .entry)) (now (u .entry)) block i) p (now (ops .entry)) (now (ops .exit)) r ⌝ }
 {
     let kind = mark(u, i, KIND);
     if kind == OPAQUE_ITEM {
@@ -228,8 +226,8 @@ fn put_item(
 // The items of the first m records, on n wires.
 pub fn emit_all(w: &[f64], u: &[u32], m: usize, n: usize, ops: &mut [f64])
     requires { ⌜ Held (now w) (now u) m n ⌝ }
-    requires { ⌜ length (allPlaces (operationsOf (modesIn (now u)) (itemsIn (now w) (now u) m))) ≤ length (now ops) ⌝ }
-    ensures { λ _. ⌜ now (ops .exit) ≡ written (operationsOf (modesIn (now (u .entry))) (itemsIn (now (w .entry)) (now (u .entry)) m)) (now (ops .entry)) ⌝ }
+    requires { ⌜ length (allPlaces (operationsIn (now w) (now u) m)) ≤ length (now ops) ⌝ }
+    ensures { λ _. ⌜ now (ops .exit) ≡ written (operationsIn (now (w .entry)) (now (u .entry)) m) (now (ops .entry)) ⌝ }
 {
     let mut p = 0;
     let mut block: u32 = 0;

@@ -9,9 +9,10 @@ ghost use Rattle.tape.specs.Bounds.{maxQubits, maxGates};
 ghost use Rattle.tape.specs.Parse.{gatesOf};
 ghost use Rattle.fuse.specs.Slotted.{Gates};
 ghost use Rattle.detect.specs.Operation.{allPlaces, written};
-ghost use Rattle.detect.specs.Emit.{operationsOf};
-ghost use Rattle.detect.specs.Records.{itemsIn, modesIn, Held};
-ghost use Rattle.detect.specs.Compile.{floatsOf, marksOf, hasWork, answerOf, checkedAnswer, writtenOf, reportedOf, programOf, compiled, compiledWork, compiledMarks, compiledOps};
+ghost use Rattle.detect.specs.Emit.{operationsIn};
+ghost use Rattle.detect.specs.Records.{Held};
+ghost use Rattle.detect.specs.Compile.{floatsOf, marksOf, answerOf, writtenOf, reportedOf, programOf, checkedAnswer, checkedLent, checkedOps, Lent};
+ghost use Rattle.detect.specs.Compile.{compiled, compiledWork, compiledMarks, compiledOps};
 use crate::emit::OP_PLACES;
 use crate::emit::emit_all;
 use crate::program::detect;
@@ -45,8 +46,8 @@ fn clear_marks(u: &mut [u32])
 
 // The operations of the first m records, if no block is bad.
 fn emit(free: bool, w: &[f64], u: &[u32], m: usize, n: usize, ops: &mut [f64])
-    requires { ⌜ Held (now w) (now u) m n × (free ≡ true → length (allPlaces (operationsOf (modesIn (now u)) (itemsIn (now w) (now u) m))) ≤ length (now ops)) ⌝ }
-    ensures { λ _. ⌜ now (ops .exit) ≡ cond free (written (operationsOf (modesIn (now (u .entry))) (itemsIn (now (w .entry)) (now (u .entry)) m)) (now (ops .entry))) (now (ops .entry)) ⌝ }
+    requires { ⌜ Held (now w) (now u) m n × (free ≡ true → length (allPlaces (operationsIn (now w) (now u) m)) ≤ length (now ops)) ⌝ }
+    ensures { λ _. ⌜ now (ops .exit) ≡ cond free (written (operationsIn (now (w .entry)) (now (u .entry)) m) (now (ops .entry))) (now (ops .entry)) ⌝ }
 {
     if free {
         emit_all(w, u, m, n, ops);
@@ -62,7 +63,7 @@ fn compile_in(
     u: &mut [u32],
     ops: &mut [f64],
 ) -> Compiled
-    requires { ⌜ Gates (now tape) g (h .n) × (h .n ≤ maxQubits) × (g ≤ maxGates) × (length (now w) ≡ floatsOf g (h .n)) × (length (now u) ≡ marksOf g (h .n)) ⌝ }
+    requires { ⌜ Lent (now tape) h g (now w) (now u) ⌝ }
     ensures answer { λ r. ⌜ r ≡ answerOf (length (now (ops .entry))) (reportedOf h (gatesOf (now (tape .entry)))) (programOf h (gatesOf (now (tape .entry)))) ⌝ }
     ensures work { λ _. ⌜ now (w .exit) ≡ filled (length (now (w .entry))) f0 (now (w .entry)) ⌝ }
     ensures marks { λ _. ⌜ now (u .exit) ≡ filled (length (now (u .entry))) 0 (now (u .entry)) ⌝ }
@@ -95,9 +96,9 @@ fn compile_checked(
 ) -> Compiled
     requires { ⌜ Gates (now tape) g (h .n) × (h .n ≤ maxQubits) × (g ≤ maxGates) ⌝ }
     ensures answer { λ r. ⌜ r ≡ checkedAnswer h (gatesOf (now (tape .entry))) g (length (now (work .entry))) (length (now (marks .entry))) (length (now (ops .entry))) ⌝ }
-    ensures work { λ _. ⌜ now (work .exit) ≡ cond (hasWork g (h .n) (length (now (work .entry))) (length (now (marks .entry)))) (filled (floatsOf g (h .n)) f0 (now (work .entry))) (now (work .entry)) ⌝ }
-    ensures marks { λ _. ⌜ now (marks .exit) ≡ cond (hasWork g (h .n) (length (now (work .entry))) (length (now (marks .entry)))) (filled (marksOf g (h .n)) 0 (now (marks .entry))) (now (marks .entry)) ⌝ }
-    ensures ops { λ _. ⌜ now (ops .exit) ≡ cond (hasWork g (h .n) (length (now (work .entry))) (length (now (marks .entry)))) (writtenOf (programOf h (gatesOf (now (tape .entry)))) (now (ops .entry))) (now (ops .entry)) ⌝ }
+    ensures work { λ _. ⌜ now (work .exit) ≡ checkedLent g (h .n) (length (now (work .entry))) (length (now (marks .entry))) floatsOf f0 (now (work .entry)) ⌝ }
+    ensures marks { λ _. ⌜ now (marks .exit) ≡ checkedLent g (h .n) (length (now (work .entry))) (length (now (marks .entry))) marksOf 0 (now (marks .entry)) ⌝ }
+    ensures ops { λ _. ⌜ now (ops .exit) ≡ checkedOps h (gatesOf (now (tape .entry))) g (length (now (work .entry))) (length (now (marks .entry))) (now (ops .entry)) ⌝ }
 {
     let n = h.n;
     let floats = 64 * (g + n);

@@ -1,11 +1,10 @@
 // Order, path starts and modes of the qubits as tables of fixed length.
 ghost use mathlib.Core.Path.{_≡_};
-ghost use Prim.Native.Nat.{ℕ, _+_, _*_, _<_, _≤_};
+ghost use Prim.Native.Nat.{_<_, _≤_};
 ghost use Rattle.work.specs.Marks.{Records, column};
-ghost use Rattle.work.specs.Columns.{labColumn, contentColumn, posColumn};
 ghost use Rattle.tape.specs.Bounds.{maxQubits};
 ghost use Rattle.detect.specs.Report.{table};
-ghost use Rattle.detect.specs.Records.{qubitMode, ColumnBelow};
+ghost use Rattle.detect.specs.Records.{qubitMode, ColumnBelow, QubitThere, QubitsThere};
 use work::CONTENT;
 use work::LAB;
 use work::POS;
@@ -27,7 +26,7 @@ pub fn column_table(u: &[u32], n: usize, c: usize) -> [u16; 128]
 
 // The mode of qubit q: of the wire that is in its slot.
 fn mode_of_qubit(u: &[u32], n: usize, q: usize) -> u32
-    requires { ⌜ (q < n) × Records (now u) n × ColumnBelow (now u) labColumn n n × ColumnBelow (now u) contentColumn n n × ColumnBelow (now u) posColumn n n ⌝ }
+    requires { ⌜ QubitThere (now u) n q ⌝ }
     ensures { λ r. ⌜ (r ≡ qubitMode (now (u .entry)) q) × (r < n) ⌝ }
 {
     let s = mark(u, q, LAB) as usize;
@@ -37,7 +36,7 @@ fn mode_of_qubit(u: &[u32], n: usize, q: usize) -> u32
 
 // The mode of each qubit.
 pub fn mode_table(u: &[u32], n: usize) -> [u16; 128]
-    requires { ⌜ Records (now u) n × (n ≤ maxQubits) × ColumnBelow (now u) labColumn n n × ColumnBelow (now u) contentColumn n n × ColumnBelow (now u) posColumn n n ⌝ }
+    requires { ⌜ QubitsThere (now u) n ⌝ }
     ensures { λ r. ⌜ r ≡ table n (qubitMode (now (u .entry))) ⌝ }
 {
     let mut t = [0; 128];
