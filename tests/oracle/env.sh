@@ -31,12 +31,12 @@ build() {
         --config "source.system.directory=\"$REGISTRY\""
 }
 
-# Builds the bench, and before it the port's archive if there is none.
+# Builds the bench, and before it the port's archive, unless another is named.
 build_bench() {
-    LEAVES_ARCHIVE=${LEAVES_ARCHIVE:-$ROOT/target/staticlib/libleaves.a}
-    export LEAVES_ARCHIVE
-    if [ ! -f "$LEAVES_ARCHIVE" ]; then
+    if [ -z "${LEAVES_ARCHIVE:-}" ]; then
         (cd "$ROOT" && rt staticlib leaves)
+        LEAVES_ARCHIVE=$ROOT/target/staticlib/libleaves.a
     fi
+    export LEAVES_ARCHIVE
     build bench
 }
