@@ -1,6 +1,5 @@
--- The bit register of demand 3, its answers, and what the theorems about fusing speak of. Definitions only.
+-- The bit register of demand 3, and what the theorems about fusing speak of. Definitions only.
 pub mod Register
-pub mod Answers
 pub mod Runs
 pub mod Bits
 pub mod Blocks

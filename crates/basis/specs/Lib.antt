@@ -1,0 +1,3 @@
+-- Basis states in the engine, and the bit register's answers. Definitions only.
+pub mod Holds
+pub mod Answers

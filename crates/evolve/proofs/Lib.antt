@@ -1,0 +1,1 @@
+-- Operations decoded from their places. Assumes nothing.

@@ -1,0 +1,2 @@
+-- What the contracts of `evolve` speak of. Definitions only.
+pub mod Evolve
