@@ -1,1 +1,2 @@
 -- Operations decoded from their places. Assumes nothing.
+pub mod Decoding

@@ -3,8 +3,8 @@ ghost use mathlib.Core.Path.{_≡_};
 ghost use Rattle.state.specs.Answers.{told, refusal};
 ghost use Rattle.state.specs.Calls.{applyState};
 ghost use Rattle.queries.specs.Calls.{expectationZProductOf, expectationZProductWork, sampleWork, sampleOut};
-use state::answer::Answer;
-use state::answer::Refusal;
+use state::Answer;
+use state::Refusal;
 
 // A refusal's number is zero.
 fn no_value(why: Refusal) -> f64

@@ -38,7 +38,7 @@ basis-same b b′ r c e f =
     λ t. cond (eqb (r % 2) 0 && eqb c (r + 1)) (withSign (e t) 1) (cond (eqb (c % 2) 0 && eqb r (c + 1)) (withSign (not (f t)) 1) (pos 0))
 
 -- in different modes it is 0
-basis-apart : (b : ℕ → Bool) (r c : ℕ) → r / 2 ≢ c / 2 → basis b r c ≡ pos 0
+pub basis-apart : (b : ℕ → Bool) (r c : ℕ) → r / 2 ≢ c / 2 → basis b r c ≡ pos 0
 basis-apart b r c n =
     λ t. cond (no-pair r c n t) (withSign (b (r / 2)) 1) (cond (no-pair c r (λ e. n (sym e)) t) (withSign (not (b (c / 2))) 1) (pos 0))
   where

@@ -11,10 +11,10 @@ ghost use Rattle.queries.specs.Calls.{probabilityOf, probabilityWork};
 ghost use Rattle.queries.specs.Inner.{Marked};
 use super::lists::MAX_QUBITS;
 use super::marginals::marked_probability;
-use state::answer::Answer;
-use state::answer::Refusal;
-use state::check::mode_at;
-use state::check::state_ok;
+use state::Answer;
+use state::Refusal;
+use state::mode_at;
+use state::state_ok;
 
 const WORD_BITS: usize = 64;
 

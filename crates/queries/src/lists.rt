@@ -9,7 +9,7 @@ ghost use Rattle.pfaffian.specs.Shot.{bit};
 ghost use Rattle.state.specs.Modes.{isPermutation};
 ghost use Rattle.queries.specs.Lists.{badPlace, oddMode, conflictsOf, bitsOk, bitListed, modeListed, stopPlace, noted, notedModes};
 ghost use Rattle.queries.specs.Inner.{Marked, markAt, Listed};
-use state::check::mode_at;
+use state::mode_at;
 
 pub const MAX_QUBITS: usize = 128;
 

@@ -15,9 +15,9 @@ use super::lists::list_modes;
 use super::lists::note_bits;
 use super::matrices::ask;
 use super::matrices::pfaffian_cleared;
-use state::answer::Answer;
-use state::answer::Refusal;
-use state::check::state_ok;
+use state::Answer;
+use state::Refusal;
+use state::state_ok;
 
 // A mode that is asked for a one turns the parity.
 fn turned(odd: bool, mark: u8) -> bool

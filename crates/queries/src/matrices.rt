@@ -15,7 +15,7 @@ ghost use Rattle.queries.specs.Calls.{covarianceOf, cleared};
 ghost use Rattle.queries.specs.Inner.{markAt, Ready, Modes, rowLaid, pairShifted, pairsShifted};
 use pfaffian::entry;
 use pfaffian::put;
-use state::expectation::covariance;
+use state::covariance;
 use state::vacuum::fill;
 
 // The state's row that is row r of the modes' matrix.

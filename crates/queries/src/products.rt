@@ -13,9 +13,9 @@ use super::lists::list_modes;
 use super::lists::mark_odd;
 use super::matrices::pfaffian_cleared;
 use super::matrices::restrict;
-use state::answer::Answer;
-use state::answer::Refusal;
-use state::check::state_ok;
+use state::Answer;
+use state::Refusal;
+use state::state_ok;
 
 // The product over the marked modes: question 20.
 fn product_marked(n: usize, state: &[f64], marks: &[u8], work: &mut [f64]) -> Answer

@@ -14,9 +14,9 @@ ghost use Rattle.queries.specs.Inner.{Ready, rowLaid};
 use pfaffian::entry;
 use pfaffian::put;
 use pfaffian::shot;
-use state::answer::Applied;
-use state::answer::Refusal;
-use state::check::state_ok;
+use state::Applied;
+use state::Refusal;
+use state::state_ok;
 use state::vacuum::fill;
 
 const MAX_SHOTS: usize = 65536;

@@ -90,7 +90,7 @@ tolerance-is x f h =
 
 -- ---- accepted tapes
 
-header-good : (t : List ℕ) (h : Header) (c : Content) → parse t ≡ accepted h c → (headerAt t ≡ h) × GoodHeader t
+pub header-good : (t : List ℕ) (h : Header) (c : Content) → parse t ≡ accepted h c → (headerAt t ≡ h) × GoodHeader t
 unfolding parse afterHeader
 header-good t h c = by (headerOf t) (header-is t)
   where
@@ -98,19 +98,20 @@ header-good t h c = by (headerOf t) (header-is t)
     by _ (good w) e = (walk-header t (headerAt t) h c (length t) 0 headerLength e, w)
     by _ (bad r) e = absurd (let z : _≡_ {A = ℕ} 0 1 = cc in omega arith)
 
-module _ (t : List ℕ) (h : Header) (c : Content) (e : parse t ≡ accepted h c) (r : RegisterTape t) (relabel : Bool) where
+module _ (t : List ℕ) (h : Header) (c : Content) (e : parse t ≡ accepted h c) where
   gates-are : gatesOf t ≡ c .gates
   unfolding contentOf
   gates-are = ap (λ w. contentOf w .gates) e
 
-  good-gates : (x : Gate) → List·Memᴰ x (c .gates) → GoodGate (h .n) x
+  pub good-gates : (x : Gate) → List·Memᴰ x (c .gates) → GoodGate (h .n) x
   good-gates x m =
       subst (λ k. GoodGate (k .n) x) (header-good t h c e .0) (gates-good t x (subst (List·Memᴰ x) (sym gates-are) m))
 
+module _ (t : List ℕ) (h : Header) (c : Content) (e : parse t ≡ accepted h c) (r : RegisterTape t) (relabel : Bool) where
   register-gates : (x : Gate) → List·Memᴰ x (c .gates) → RegisterGate x
-  register-gates x m = r x (subst (List·Memᴰ x) (sym gates-are) m)
+  register-gates x m = r x (subst (List·Memᴰ x) (sym (gates-are t h c e)) m)
 
-  tolerance : Tolerance (h .tolerance)
+  pub tolerance : Tolerance (h .tolerance)
   unfolding headerAt
   tolerance =
       let w = header-good t h c e in
@@ -119,9 +120,9 @@ module _ (t : List ℕ) (h : Header) (c : Content) (e : parse t ≡ accepted h c
   -- the items of every accepted register tape follow the register
   pub tape-follows : (let s = labelled relabel (c .gates) (unlabelled (h .n)) in
       Follows relabel (h .n) EvenSum anyPair ⊥ (c .gates) s (fuseOf relabel (h .tolerance) (h .n) (s .swaps) (s .events)))
-  tape-follows = items-follow (h .n) (c .gates) good-gates register-gates relabel (h .tolerance) tolerance
+  tape-follows = items-follow (h .n) (c .gates) (good-gates t h c e) register-gates relabel (h .tolerance) tolerance
 
   -- without Swap and on neighbouring pairs nothing is renamed, and every item is Gaussian
   pub tape-plain : ((x : Gate) → List·Memᴰ x (c .gates) → PlainGate x)
       → (let s = labelled relabel (c .gates) (unlabelled (h .n)) in Plain (h .n) s (fuseOf relabel (h .tolerance) (h .n) (s .swaps) (s .events)))
-  tape-plain p = items-plain (h .n) (c .gates) good-gates register-gates relabel (h .tolerance) tolerance p
+  tape-plain p = items-plain (h .n) (c .gates) (good-gates t h c e) register-gates relabel (h .tolerance) tolerance p

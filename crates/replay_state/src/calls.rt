@@ -8,9 +8,9 @@ use super::slices::holds;
 use super::slices::load;
 use super::slices::load_modes;
 use super::tags::*;
-use state::answer::Answer;
-use state::answer::Applied;
-use state::answer::Refusal;
+use state::Answer;
+use state::Applied;
+use state::Refusal;
 
 const OP_PLACES: usize = 20; // of the largest operation slice
 

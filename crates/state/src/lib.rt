@@ -2,19 +2,28 @@
 // signs d, in one slice that the caller lends, and the calls on it. A public call asks nothing of its
 // caller: what is wrong with n, a slice or the mode table is a refusal.
 
-pub mod answer; // answer.rt: what the calls answer
-pub mod application; // application.rt: an operation applied to the state
-pub mod check; // check.rt: question 16
-pub mod columns; // columns.rt: the columns step of a map
-pub mod det; // det.rt: the determinant of a map
-pub mod expectation; // expectation.rt: an entry of the covariance, and Z of one qubit
-pub mod grid; // grid.rt: the entries of a matrix in a slice
-pub mod local; // local.rt: a map applied to the state
-pub mod maps; // maps.rt: the maps
-pub mod operation; // operation.rt: operations, decoded from their places
-pub mod rows; // rows.rt: the rows step of a map
-pub mod signs; // signs.rt: the signs d settled and turned
-pub mod vacuum; // vacuum.rt: the first state
+mod answer; // what the calls answer
+mod application; // an operation applied to the state
+mod check; // question 16
+mod columns; // the columns step of a map
+mod det; // the determinant of a map
+mod expectation; // an entry of the covariance, and Z of one qubit
+mod grid; // the entries of a matrix in a slice
+mod local; // a map applied to the state
+mod maps; // the maps
+mod operation; // operations, decoded from their places
+mod rows; // the rows step of a map
+mod signs; // the signs d settled and turned
+pub mod vacuum; // the first state: for the crates above, like those named last
 
+// for users
+pub use answer::Answer;
+pub use answer::Applied;
+pub use answer::Refusal;
 pub use application::apply;
 pub use expectation::expectation_z;
+// for the crates above, which meet what they require
+pub use application::apply_places;
+pub use check::mode_at;
+pub use check::state_ok;
+pub use expectation::covariance;

@@ -1,0 +1,2 @@
+-- What the register claim speaks of. Definitions only.
+pub mod Modes
