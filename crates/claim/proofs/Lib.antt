@@ -9,3 +9,4 @@ pub mod Tables
 pub mod Tapes
 pub mod Identity
 pub mod Plain
+pub mod Answering
