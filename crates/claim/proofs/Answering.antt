@@ -54,10 +54,12 @@ module _ (t : List ℕ) (h : Header) (c : Content) (e : parse t ≡ accepted h c
 
   tape-reads : (b : ℕ → Bool) × Reads (h .n) b (registerBits (c .gates)) (covarianceOf (h .n) left) (reportedOf h (c .gates) .modes)
   tape-reads =
-      let w = tape-holds t h c e register free in
-      (w .0, slice-reads (h .n) (w .0) (registerBits (c .gates)) s left (evolved (h .n) (programOf h (c .gates))) (reportedOf h (c .gates) .modes)
-      (qubits-few t h c e) (stored-is (dimOf (h .n)) s (evolved (h .n) (programOf h (c .gates))) left room refl) (w .1) (table-permutes t h c e)
-      (λ q l. ap (w .0) (modes-read t h c e q l) ∙ w .2 q l))
+      let w = tape-holds t h c e register free in (
+        w .0,
+        slice-reads (h .n) (w .0) (registerBits (c .gates)) s left (evolved (h .n) (programOf h (c .gates))) (reportedOf h (c .gates) .modes)
+            (qubits-few t h c e) (stored-is (dimOf (h .n)) s (evolved (h .n) (programOf h (c .gates))) left room refl) (w .1) (table-permutes t h c e)
+            (λ q l. ap (w .0) (modes-read t h c e q l) ∙ w .2 q l),
+      )
 
   pub tape-answers : (qs : List Query)
       → RightAnswers (h .n) (registerBits (c .gates)) qs (answers (h .n) left (reportedOf h (c .gates) .modes) qs)
