@@ -9,9 +9,13 @@ mod program; // the report of an accepted tape
 mod questions; // the questions 1 to 10
 
 pub use count::Counts;
+pub use emit::OP_PLACES;
 pub use emit::emit_all;
 pub use program::detect;
+pub use questions::clear_floats;
+pub use questions::clear_marks;
 pub use questions::compile;
 pub use report::Answer;
 pub use report::Compiled;
 pub use report::Report;
+pub use report::refuse;

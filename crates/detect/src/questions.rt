@@ -24,7 +24,7 @@ use tape::Checked;
 use tape::Header;
 use tape::check_tape;
 
-fn clear_floats(w: &mut [f64])
+pub fn clear_floats(w: &mut [f64])
     ensures { λ _. ⌜ now (w .exit) ≡ filled (length (now (w .entry))) f0 (now (w .entry)) ⌝ }
 {
     let mut i = 0;
@@ -34,7 +34,7 @@ fn clear_floats(w: &mut [f64])
     }
 }
 
-fn clear_marks(u: &mut [u32])
+pub fn clear_marks(u: &mut [u32])
     ensures { λ _. ⌜ now (u .exit) ≡ filled (length (now (u .entry))) 0 (now (u .entry)) ⌝ }
 {
     let mut i = 0;

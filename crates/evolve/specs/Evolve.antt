@@ -1,13 +1,16 @@
 -- A program run on the vacuum (001, `evolve`): its operations in order, each as `apply` decodes its 18 places. Definitions only.
 use mathlib.Core.List.{List, [], _∷_}
-use Prim.Native.Nat.{ℕ}
-use Rattle.detect.specs.Operation.{Operation, placesOf}
+use Prim.Native.Nat.{ℕ, zero, suc, _+_, _<_}
+use lib.ListN.{take, drop}
+use lib.Ieee.{Float}
+use Rattle.detect.specs.Operation.{Operation, one, two, interaction, placesOf}
+use Rattle.state.specs.Bounds.{opPlaces}
 use Rattle.state.specs.State.{State, vacuum}
 use Rattle.state.specs.Operation.{decodeOf, effect}
 use Rattle.state.specs.declared.operation.Decoded.{Decoded}
 use Rattle.state.specs.declared.operation.Decoded.the-variants.{Good, Bad}
 
--- what an operation does to the state. One that question 17 would turn down does nothing; a program has none
+-- what an operation does to the state. One that question 17 would turn down does nothing; a program has none (law `program-fits`)
 unfoldable pub decodedEffect : Decoded → State → State
 decodedEffect (Good o) t = effect o t
 decodedEffect Bad t = t
@@ -20,3 +23,20 @@ evolvedFrom n (o ∷ os) t = evolvedFrom n os (decodedEffect (decodeOf n (places
 -- from the vacuum
 abbrev pub evolved : ℕ → List Operation → State
 evolved n os = evolvedFrom n os vacuum
+
+-- the same of the first k operations that a slice holds, 18 places each
+unfoldable pub evolvedIn : ℕ → ℕ → List Float → State → State
+evolvedIn n zero l t = t
+evolvedIn n (suc k) l t = evolvedIn n k (drop opPlaces l) (decodedEffect (decodeOf n (take opPlaces l)) t)
+
+-- ---- a program that fits n modes
+
+-- question 17 of an operation: "the mode .. below n, for 2 its successor too"; "an interaction .. its mode unquestioned"
+abbrev pub Fitting : ℕ → Operation → Type 0
+Fitting n (one k q) = k < n
+Fitting n (two k q) = k + 1 < n
+Fitting n (interaction k block second w) = Unit {0}
+
+unfoldable pub AllFit : ℕ → List Operation → Type 0
+AllFit n [] = Unit {0}
+AllFit n (o ∷ os) = Fitting n o × AllFit n os

@@ -1,0 +1,93 @@
+-- `evolve::evolve` meets its contract: the invariant says that the slice holds what the operations passed make of the vacuum. Assumes nothing.
+use mathlib.Core.Path.{_≡_, ap, _∙_}
+use Prim.Native.Nat.{_*_, _-_, _≤_}
+use native.Mathlib.Nat.{add-sub-cancel-left}
+use native.Mathlib.Numerals.{add-one}
+use native.Mathlib.Omega.{arith}
+use borrow.Author.Needs.{needs}
+use lib.ListN.{length, take, drop}
+use Rattle.state.specs.Bounds.{dimOf, statePlaces}
+use Rattle.state.specs.State.{stored, vacuum}
+use Rattle.state.specs.Operation.{decodeOf}
+use Rattle.state.specs.Calls.{decodedState}
+use Rattle.evolve.specs.Evolve.{evolvedIn}
+use Rattle.evolve.proofs.Evolving.{evolve-more, stored-again, stored-then, stored-long}
+use Rattle.evolve.proofs.evolve.Statement.{statement}
+use Rattle.evolve.proofs.evolve.Tie as tie
+
+abbrev Inv-loop : tie.InvT-loop
+Inv-loop n count ops state₀ i₀ state i =
+    (i ≤ count) × (statePlaces (dimOf n) ≤ length state₀) × (state ≡ stored (dimOf n) (evolvedIn n i ops vacuum) state₀)
+
+abbrev μ-loop : tie.MeasureT-loop
+μ-loop n count ops state₀ i₀ state i = count - i
+
+loop-holds : tie.Need-loop-holds Inv-loop μ-loop
+unfolding evolvedIn
+loop-holds c =
+    let s = c .before .before .before .before .before .before in
+    let a = s .args in
+    let v = c .before .before .vacuum in
+    let long = stored-long (dimOf (a .n)) vacuum (a .state .now) (v .last .1 .0) (s .pre .0 .room) (v .ensures) in (
+      omega arith,
+      omega (arith, long, s .pre .0 .room),
+      stored-again (dimOf (a .n)) vacuum (a .state .now) (v .last .1 .0) (s .pre .0 .room) (v .ensures),
+    )
+
+apply-places-requires : tie.Need-apply-places-requires Inv-loop μ-loop
+apply-places-requires c κs =
+    let l = c .before .before .before .loop in
+    let n = c .before .before .before .before .before .before .before .before .before .before .args .n in
+    record { room = omega (arith, stored-long (dimOf n) _ _ (l .state) (l .inv .1) (l .inv .2), l .inv .1) }
+
+loop-again : tie.Need-loop-again Inv-loop μ-loop
+loop-again c =
+    let k = c .before .before .before .before .before .before in
+    let l = k .loop in
+    let a = k .before .before .before .before .before .before .before .args in
+    let s₀ = k .before .before .before .vacuum .last .1 .0 in
+    let p = 18 * l .i in
+    let part = ap (λ m. decodedState (a .n) (l .state) (decodeOf (a .n) (take m (drop p (a .ops .now))))) (add-sub-cancel-left p 18) in (
+      search needs,
+      l .inv .1,
+      rw add-one (c .before .before .apply-places .ensures .1 ∙ part ∙ evolve-more (a .n) (l .i) (a .ops .now) s₀ (l .state) (l .inv .1) (l .inv .2)),
+    )
+
+same-length : tie.Need-same-length Inv-loop μ-loop
+same-length c =
+    let l = c .before .loop in
+    let s = c .before .before .before .before .before .before .before .before in
+    let v = c .before .before .before .before .vacuum in
+    stored-long (dimOf (s .args .n)) _ (v .last .1 .0) (l .state) (l .inv .1) (l .inv .2)
+    ∙ stored-long (dimOf (s .args .n)) vacuum (s .args .state .now) (v .last .1 .0) (s .pre .0 .room) (v .ensures)
+
+returns : tie.Need-returns Inv-loop μ-loop
+returns c =
+    let l = c .before .loop in
+    let s = c .before .before .before .before .before .before .before .before in
+    let a = s .args in
+    let v = c .before .before .before .before .vacuum in
+    let last : l .i ≡ a .count = omega (arith, l .inv .0, c .loop-test .left) in
+    stored-then (dimOf (a .n)) vacuum (evolvedIn (a .n) (l .i) (a .ops .now) vacuum) (a .state .now) (v .last .1 .0) (l .state) (s .pre .0 .room) (v .ensures) (l .inv .2)
+    ∙ ap (λ k. stored (dimOf (a .n)) (evolvedIn (a .n) k (a .ops .now) vacuum) (a .state .now)) last
+
+pub evolve-spec : {M : Type 1} → statement M
+evolve-spec =
+    tie.close
+    (tie.spec
+    Inv-loop
+    μ-loop
+    (λ c κs. c .before .before .before .pre .0)
+    loop-holds
+    (λ c. search needs)
+    (λ c. search needs)
+    (λ c. search needs)
+    (λ c. search needs)
+    (λ c. search needs)
+    (λ c. search needs)
+    apply-places-requires
+    (λ c. search needs)
+    (λ c. search needs)
+    loop-again
+    same-length
+    returns)

@@ -1,0 +1,5 @@
+-- Laws of a run, for the proofs here and for other crates. Assumes nothing.
+pub mod Verdicts
+pub mod Answering
+pub mod Accepted
+pub mod Claim

@@ -1,0 +1,92 @@
+-- `gaussian::engine::run` meets its contract: the questions 1 to 8, then those of a tape that passes them. Assumes nothing.
+use mathlib.Core.Path.{sym, ap, _∙_}
+use borrow.Author.Needs.{needs}
+use lib.ListN.{length}
+use Rattle.gate.specs.Complex.{f0}
+use Rattle.tape.specs.Parse.{parse}
+use Rattle.tape.proofs.CursorLaws.{checked-passed}
+use Rattle.tape.proofs.GoodLaws.{gates-good, gates-few}
+use Rattle.detect.specs.Compile.{floatsOf, marksOf}
+use Rattle.detect.proofs.Checking.{refused-work, good-work}
+use Rattle.gaussian.specs.Run.{answerOf, opsAfter, stateAfter}
+use Rattle.gaussian.proofs.Answering.{asked-refused, asked-good}
+use Rattle.gaussian.proofs.Claim.{claim-of}
+use Rattle.gaussian.proofs.engine.run.Statement.{statement}
+use Rattle.gaussian.proofs.engine.run.Tie as tie
+
+run-checked-requires : tie.Need-run-checked-requires
+run-checked-requires c κs =
+    let m = c .before .before .before .before .before in
+    let t = m .before .before .before .before .before .before .before .before .args .tape .now in
+    let e = sym (m .before .before .check-tape .ensures) ∙ m .c2 .given .1 in
+    let p = checked-passed t _ _ _ e in (
+      record { cursor = p .cursor; count = p .gates; good = λ x k. rw (p .header-is) (gates-good t x k) },
+      rw (p .header-is) (p .header .qubits),
+      rw (p .gates) (gates-few t),
+    )
+
+returns : tie.Need-returns
+unfolding answerOf opsAfter stateAfter
+returns c =
+    let m = c .before .before in
+    let a = m .before .before .before .before .before .before .before .before .args in
+    let p = parse (a .tape .now) in
+    let e = sym (m .before .before .check-tape .ensures) ∙ m .c .given .1 in
+    let w = length (a .work .now) in
+    let u = length (a .marks .now) in
+    let no = asked-refused p w u (length (a .ops .now)) (length (a .state .now)) _ _ e in
+    let answer = c .refuse .ensures ∙ sym (ap answerOf no) in
+    let state = sym (ap (λ x. stateAfter x (a .state .now)) no) in (
+      answer,
+      (
+        sym (refused-work p _ _ e w u floatsOf f0 (a .work .now)),
+        (
+          sym (refused-work p _ _ e w u marksOf 0 (a .marks .now)),
+          (
+            sym (ap (λ x. opsAfter x (a .ops .now)) no),
+            (state, claim-of (a .tape .now) (a .work .now) (a .marks .now) (a .ops .now) (a .state .now) _ _ answer state),
+          ),
+        ),
+      ),
+    )
+
+returns-2 : tie.Need-returns-2
+returns-2 c =
+    let f = c .before .before .before .before .before .before .before .before in
+    let m = f .before .before .before .before .before .before in
+    let a = m .before .before .before .before .before .before .before .before .args in
+    let p = parse (a .tape .now) in
+    let e = sym (m .before .before .check-tape .ensures) ∙ m .c2 .given .1 in
+    let w = length (a .work .now) in
+    let u = length (a .marks .now) in
+    let good = asked-good p w u (length (a .ops .now)) (length (a .state .now)) _ _ _ e in
+    let answer = f .run-checked .ensures .0 ∙ sym (ap answerOf good) in
+    let state = f .run-checked .ensures .1 .1 .1 .1 ∙ sym (ap (λ x. stateAfter x (a .state .now)) good) in (
+      answer,
+      (
+        f .run-checked .ensures .1 .0 ∙ sym (good-work p _ _ _ e w u floatsOf f0 (a .work .now)),
+        (
+          f .run-checked .ensures .1 .1 .0 ∙ sym (good-work p _ _ _ e w u marksOf 0 (a .marks .now)),
+          (
+            f .run-checked .ensures .1 .1 .1 .0 ∙ sym (ap (λ x. opsAfter x (a .ops .now)) good),
+            (state, claim-of (a .tape .now) (a .work .now) (a .marks .now) (a .ops .now) (a .state .now) _ _ answer state),
+          ),
+        ),
+      ),
+    )
+
+pub run-spec : {M : Type 1} → statement M
+run-spec =
+    tie.close
+    (tie.spec
+    (λ c κs. tt)
+    (λ c. search needs)
+    (λ c κs. tt)
+    (λ c. search needs)
+    run-checked-requires
+    returns
+    (λ c. search needs)
+    (λ c. search needs)
+    (λ c. search needs)
+    (λ c. search needs)
+    returns-2)
