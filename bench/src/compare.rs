@@ -9,6 +9,7 @@ use oracle::tape::entries;
 use original::access::detect::access as detect;
 use original::access::detect::access::Kind;
 use original::access::detect::DetectOptions;
+use original::Complex64;
 
 /// The original's tolerance.
 const TOL: f64 = 1e-10;
@@ -146,8 +147,21 @@ fn flat<const K: usize>(len: usize, (q, residual): detect::Mapped<K>) -> Vec<f64
     all
 }
 
-/// Classes of blocks and of other matrices, with and without relabelling: kind, swap, residual and matrix. Matrices that passed an
-/// off-diagonal test are compared if they are blocks of circuits: the phase of others may be a NaN, and there the two differ.
+/// The places of the diagonal of u, and of SWAP · u.
+const DIAGONALS: [[usize; 4]; 2] = [[0, 5, 10, 15], [0, 9, 6, 15]];
+
+/// Nothing but these entries is left of u, and their interaction phase w is zero or no finite number. There port and original differ: where
+/// w is not above zero the phase counts, while the original takes the angle of a zero to be zero.
+fn lacks_phase(u: &Flat4, diagonal: [usize; 4]) -> bool {
+    let entry = |k: usize| Complex64::new(u[2 * k], u[2 * k + 1]);
+    let rest: f64 = (0..16).filter(|k| !diagonal.contains(k)).map(|k| entry(k).norm_sqr()).sum();
+    let [d0, d1, d2, d3] = diagonal.map(entry);
+    let w = (d0 * d3) * (d1 * d2).conj();
+    rest.sqrt() <= TOL && !(w.norm() > 0.0 && w.re.is_finite() && w.im.is_finite())
+}
+
+/// Classes of blocks and of other matrices, with and without relabelling: kind, swap, residual and matrix. Of the other matrices those
+/// that passed an off-diagonal test are compared unless they lack a phase.
 fn classes(rng: &mut Rng, count: usize) -> bool {
     let mut tally = Tally::new("classify2");
     for i in 0..count {
@@ -162,7 +176,7 @@ fn classes(rng: &mut Rng, count: usize) -> bool {
         };
         let mut got = vec![0.0; 32];
         let code = classify2(relabel, TOL, &u, &mut got);
-        if code >= 8 && !is_block {
+        if code >= 8 && DIAGONALS.into_iter().any(|places| lacks_phase(&u, places)) {
             continue;
         }
         got.extend([f64::from(code % 8), class_residual(relabel, TOL, &u)]);
