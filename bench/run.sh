@@ -7,4 +7,5 @@ ROOT=$(cd "$(dirname "$0")/.." && pwd)
 original_at "${1-}"
 build_bench
 "$BENCH" compare 100000 100000
+"$BENCH" compile 20000
 "$BENCH" time

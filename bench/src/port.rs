@@ -1,5 +1,5 @@
-//! The port's functions: the C symbols of libleaves.a. A slice passes as a
-//! pointer and a length; nothing is written to one that is too short.
+//! The port's functions: the C symbols of libleaves.a and libengine.a. A slice
+//! passes as a pointer and a length; nothing is written to one that is too short.
 
 /// A function of two matrices.
 pub type Of2 = unsafe extern "C" fn(*const f64, usize, *const f64, usize, *mut f64, usize);
@@ -92,6 +92,28 @@ extern "C" {
     );
 }
 
+#[link(name = "engine", kind = "static")]
+extern "C" {
+    fn jozkeral_compile(
+        tape: *const u8,
+        tapen: usize,
+        work: *mut f64,
+        workn: usize,
+        marks: *mut u32,
+        marksn: usize,
+        ops: *mut f64,
+        opsn: usize,
+        place: *mut u64,
+        placen: usize,
+        report: *mut u64,
+        reportn: usize,
+        measures: *mut f64,
+        measuresn: usize,
+        tables: *mut u16,
+        tablesn: usize,
+    ) -> u64;
+}
+
 /// Calls a function of two matrices on slices.
 pub fn call2(f: Of2, a: &[f64], b: &[f64], out: &mut [f64]) {
     // SAFETY: each pointer comes with the length of its slice, and the three do not overlap.
@@ -167,6 +189,46 @@ pub fn sample(
             work.len(),
             out.as_mut_ptr(),
             out.len(),
+        )
+    }
+}
+
+/// The report of `compile` as include/jozkeral.h lays it out.
+pub struct Report {
+    pub place: [u64; 1],
+    pub words: [u64; 14],
+    pub measures: [f64; 2],
+    pub tables: [u16; 384],
+}
+
+/// Compiles a tape; the number of a refusal, or 0.
+pub fn compile(
+    tape: &[u8],
+    work: &mut [f64],
+    marks: &mut [u32],
+    ops: &mut [f64],
+    report: &mut Report,
+) -> u64 {
+    let Report { place, words, measures, tables } = report;
+    // SAFETY: as above.
+    unsafe {
+        jozkeral_compile(
+            tape.as_ptr(),
+            tape.len(),
+            work.as_mut_ptr(),
+            work.len(),
+            marks.as_mut_ptr(),
+            marks.len(),
+            ops.as_mut_ptr(),
+            ops.len(),
+            place.as_mut_ptr(),
+            place.len(),
+            words.as_mut_ptr(),
+            words.len(),
+            measures.as_mut_ptr(),
+            measures.len(),
+            tables.as_mut_ptr(),
+            tables.len(),
         )
     }
 }

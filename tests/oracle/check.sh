@@ -20,6 +20,9 @@ done
 for list in cuts mixed angled; do
     "$ORACLE" fuse "$list" | cmp - "$ROOT/crates/replay_fuse/data/$list.bin"
 done
+for list in edges graphs exact angled; do
+    "$ORACLE" compile "$list" | cmp - "$ROOT/crates/replay_compile/data/$list.bin"
+done
 for list in gates given phases; do
     "$ORACLE" classify "$list" | cmp - "$ROOT/crates/replay_classify/data/$list.bin"
 done

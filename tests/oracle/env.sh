@@ -31,12 +31,16 @@ build() {
         --config "source.system.directory=\"$REGISTRY\""
 }
 
-# Builds the bench, and before it the port's archive, unless another is named.
+# Builds the bench, and before it the port's archives, unless others are named.
 build_bench() {
     if [ -z "${LEAVES_ARCHIVE:-}" ]; then
         (cd "$ROOT" && rt staticlib leaves)
         LEAVES_ARCHIVE=$ROOT/target/staticlib/libleaves.a
     fi
-    export LEAVES_ARCHIVE
+    if [ -z "${ENGINE_ARCHIVE:-}" ]; then
+        (cd "$ROOT" && rt staticlib engine)
+        ENGINE_ARCHIVE=$ROOT/target/staticlib/libengine.a
+    fi
+    export LEAVES_ARCHIVE ENGINE_ARCHIVE
     build bench
 }

@@ -231,22 +231,13 @@ fn agrees(what: u64, exact: bool, s: &[u8]) -> Tally {
     tape_agrees(what, exact, &s[16..16 + size], &s[16 + whole..])
 }
 
-// How many words follow the tag at a place.
-fn words(s: &[u8], at: usize) -> usize
-    requires { ⌜ at ≤ length (now s) ⌝ }
-    ensures { λ r. ⌜ r ≤ 65536 ⌝ }
-{
-    let x = stored::tag_at(s, at + 16) as usize;
-    if 60000 < x { 0 } else { x + 2 }
-}
-
 // A list has fewer than 1,024 records.
 fn count(s: &[u8], what: u64) -> Tally {
     let mut t = stored::nothing();
     let mut at = 0;
     let mut k: usize = 0;
     while k < 1024 {
-        let r = stored::record_at(s, at, words(s, at));
+        let r = stored::record_at(s, at, stored::size_at(s, at, 1));
         let from = r.from;
         let to = r.to;
         if r.tag == 0 {

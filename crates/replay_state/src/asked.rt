@@ -3,8 +3,8 @@
 use super::calls::answer_agrees;
 use super::calls::applied_agrees;
 use super::slices::load;
-use super::slices::words_hold;
-use super::slices::worked;
+use stored::words_hold;
+use stored::worked;
 
 const PLACES: usize = 288; // of the largest work
 

@@ -4,13 +4,13 @@ use super::asked::probability_agrees;
 use super::asked::product_agrees;
 use super::asked::sample_agrees;
 use super::asked::zz_agrees;
-use super::slices::holds;
 use super::slices::load;
 use super::slices::load_modes;
 use super::tags::*;
 use state::Answer;
 use state::Applied;
 use state::Refusal;
+use stored::holds;
 
 const OP_PLACES: usize = 20; // of the largest operation slice
 

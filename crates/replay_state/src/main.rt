@@ -1,11 +1,10 @@
 // Replays the stored states and calls, and prints how many answers, slices and outputs agree, bit for bit,
 // with what the proved functions compute. A record is a tag, the number of words that follow, and the words.
-ghost use Prim.Native.Nat.{_≤_};
 use libc::STDOUT_FILENO;
 use stored::Tally;
 
 mod tags; // tags.rt: the tags of records
-mod slices; // slices.rt: slices read from records and compared with them
+mod slices; // slices.rt: slices read from records
 mod asked; // asked.rt: the queries that need work
 mod calls; // calls.rt: the calls on a state
 
@@ -15,14 +14,6 @@ use tags::*;
 const PLACES: usize = 288; // of the largest state
 
 const QUBITS: usize = 8; // of the largest mode table
-
-// Words after the tag: the number of words, and these.
-fn size_at(s: &[u8], at: usize) -> usize
-    ensures { λ r. ⌜ r ≤ 65536 ⌝ }
-{
-    let words = stored::tag_at(s, std::num::wrapping_add_usize(at, 8)) as usize;
-    if words < 65536 { words + 1 } else { 0 }
-}
 
 fn counted(wanted: bool, good: bool) -> Tally {
     if wanted {
@@ -38,7 +29,7 @@ fn count(s: &[u8], what: u64, space: &mut [f64], table: &mut [u16]) -> Tally {
     let mut at = 0;
     let mut k: usize = 0;
     while k < 4096 {
-        let r = stored::record_at(s, at, size_at(s, at));
+        let r = stored::record_at(s, at, stored::size_at(s, at, 0));
         let from = r.from;
         let to = r.to;
         if r.tag == 0 {

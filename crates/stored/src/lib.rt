@@ -1,6 +1,8 @@
 // Stored results, for the programs that replay them. A list is a file of words of eight bytes, the lowest
 // first; a record is a tag and what follows it; the tag 0 ends the list. Floats are stored by their bits,
 // every NaN by one pattern. docs/TESTING.md says how the lists were made.
+mod slices; // slices.rt: slices beside the words of a record
+
 ghost use Prim.Native.Nat.{_+_, _≤_};
 ghost use lib.ListN.{length};
 use gate::Complex;
@@ -8,6 +10,11 @@ use gate::Mat2;
 use gate::Mat4;
 use gate::Row4;
 use libc::STDOUT_FILENO;
+pub use slices::holds;
+pub use slices::marked;
+pub use slices::word_from;
+pub use slices::words_hold;
+pub use slices::worked;
 
 // Whether the word at a place is that of x.
 pub fn is(x: f64, s: &[u8], at: usize) -> bool
@@ -111,6 +118,15 @@ pub fn record_at(s: &[u8], at: usize, words: usize) -> Record
         from,
         to: from + 8 * words,
     }
+}
+
+// How many words follow the tag at a place: `before` of them, the number of those after it, and these. 0 if they are too many.
+pub fn size_at(s: &[u8], at: usize, before: usize) -> usize
+    requires { ⌜ before ≤ 8 ⌝ }
+    ensures { λ r. ⌜ r ≤ 65536 ⌝ }
+{
+    let last = tag_at(s, std::num::wrapping_add_usize(at, 8 + 8 * before)) as usize;
+    if last < 65000 { last + before + 1 } else { 0 }
 }
 
 // How many comparisons there are, and how many agree.

@@ -6,69 +6,43 @@
 use crate::bits::word;
 use crate::families;
 use crate::list::{List, RELABEL};
+use crate::records::Records;
 use crate::rng::Rng;
 use crate::tape::{entries, tape};
+use crate::traced::traced;
 use original::access::detect::access::{fuse, Item, Kind};
 use original::access::detect::DetectOptions as Options;
 use original::gate::Gate;
-use original::traced::detect::access::trace;
-use original::traced::detect::DetectOptions as TracedOptions;
 
 /// A tape of which items are compared in every bit, and one of which kinds and wires are: tapes with
 /// a cut that passed an off-diagonal test.
 const EXACT: u64 = 1;
 const ANGLED: u64 = 2;
 
-/// The largest list, in bytes, and the gates and qubits of a tape together at most.
-const LARGEST: usize = 60_000;
+/// The gates and qubits of a tape together at most.
 const ROOM: usize = 128;
 
 /// The tolerance of the tapes made here.
 const TOL: f64 = 1e-10;
 
-/// Records so far.
-#[derive(Default)]
-struct Records(Vec<u64>);
-
-impl Records {
-    /// Adds a list with its tape; nothing if the two engines may differ there, if it is of the other
-    /// tag, or if there is no room.
-    fn add(&mut self, tag: u64, list: &List, bytes: Vec<u8>) -> bool {
-        let (tol, relabel_swaps, reorder) = (list.tol, list.has(RELABEL), false);
-        let circuit = list.circuit();
-        let seen = trace(&circuit, &TracedOptions { tol, relabel_swaps, reorder });
-        let apart = seen.angled && (seen.near || list.tol < 1e-12);
-        if apart || (tag == ANGLED) != seen.angled || list.gates.len() + list.n > ROOM {
-            return false;
-        }
-        let fused = fuse(&circuit, &Options { tol, relabel_swaps, reorder });
-        let mut body = words_of(&bytes);
-        body.extend([fused.swaps, seen.tried, usize::from(seen.angled)].map(|x| x as u64));
-        body.extend(fused.slot_of_qubit.iter().chain(&fused.content).map(|&x| x as u64));
-        fused.items.iter().for_each(|it| add_item(&mut body, it, list.tol, seen.angled));
-        if 8 * (self.0.len() + body.len() + 4) > LARGEST {
-            return false;
-        }
-        self.0.extend([tag, bytes.len() as u64, body.len() as u64]);
-        self.0.extend(body);
-        true
+/// Adds a list with its tape; nothing if the two engines may differ there, if it is of the other
+/// tag, or if there is no room.
+fn add(out: &mut Records, tag: u64, list: &List, bytes: &[u8]) -> bool {
+    let (tol, relabel_swaps, reorder) = (list.tol, list.has(RELABEL), false);
+    let seen = traced(list);
+    if seen.apart || (tag == ANGLED) != seen.angled || list.gates.len() + list.n > ROOM {
+        return false;
     }
-
-    /// Adds a list with its own tape.
-    fn plain(&mut self, tag: u64, list: &List) -> bool {
-        tape(list).is_ok_and(|bytes| self.add(tag, list, bytes))
-    }
-
-    fn bytes(mut self) -> Vec<u8> {
-        self.0.push(0);
-        self.0.iter().flat_map(|w| w.to_le_bytes()).collect()
-    }
+    let fused = fuse(&list.circuit(), &Options { tol, relabel_swaps, reorder });
+    let mut body = Vec::from([fused.swaps, seen.tried, usize::from(seen.angled)].map(|x| x as u64));
+    body.extend(fused.slot_of_qubit.iter().chain(&fused.content).map(|&x| x as u64));
+    fused.items.iter().for_each(|it| add_item(&mut body, it, list.tol, seen.angled));
+    out.tape(tag, bytes, &body)
 }
 
-/// Bytes as words, zeros after the last.
-fn words_of(bytes: &[u8]) -> Vec<u64> {
-    let word = |part: &[u8]| part.iter().rev().fold(0, |w, &b| w << 8 | u64::from(b));
-    bytes.chunks(8).map(word).collect()
+/// Adds a list with its own tape.
+fn plain(out: &mut Records, tag: u64, list: &List) -> bool {
+    tape(list).is_ok_and(|bytes| add(out, tag, list, &bytes))
 }
 
 /// An item: a word of its kind and wires, of a two-qubit item the residual, the matrix.
@@ -118,7 +92,7 @@ fn random(out: &mut Records, tag: u64, names: &[&str]) {
     let mut rng = Rng::new(tag);
     for k in 0..400 {
         let family = families::find(names[k % names.len()]).expect("a family");
-        out.plain(tag, &family(&mut rng.split()));
+        plain(out, tag, &family(&mut rng.split()));
     }
 }
 
@@ -132,7 +106,7 @@ fn cuts(out: &mut Records) {
             let q = rng.between(1, other);
             if p <= length {
                 let list = tailed(&mut rng, (length, p), (other, q));
-                assert!(out.plain(EXACT, &list), "a tail of {length}, {p}");
+                assert!(plain(out, EXACT, &list), "a tail of {length}, {p}");
             }
         }
     }
@@ -167,28 +141,38 @@ fn tail(rng: &mut Rng, q: usize, (length, p): (usize, usize)) -> Vec<Gate> {
 
 /// Small lists that are about one thing each, then random ones.
 fn mixed(out: &mut Records) {
-    swaps(out);
-    small(out);
+    for (list, bytes) in fixed() {
+        add(out, EXACT, &list, &bytes);
+        add(out, ANGLED, &list, &bytes);
+    }
     random(out, EXACT, &["opaque", "matchgate", "tails", "register", "reorder"]);
+}
+
+/// The small lists with their tapes.
+pub fn fixed() -> Vec<(List, Vec<u8>)> {
+    let with_tape = |list: List| {
+        let bytes = tape(&list).expect("a tape");
+        (list, bytes)
+    };
+    swaps().into_iter().chain(small().into_iter().map(with_tape)).collect()
 }
 
 /// A Swap by its code, and by its matrix: on the tape the matrix is given, to the original it comes
 /// as three flips.
-fn swaps(out: &mut Records) {
+fn swaps() -> Vec<(List, Vec<u8>)> {
     let three = |a, b| [Gate::Cnot(a, b), Gate::Cnot(b, a), Gate::Cnot(a, b)];
+    let mut out = Vec::new();
     for flags in [0, RELABEL] {
         for (a, b) in [(0, 1), (1, 0)] {
             let first = [Gate::ISwap(1, 2), Gate::X(0), Gate::H(1)];
             let last = [Gate::H(0), Gate::ISwap(0, 2)];
             let coded = of(3, flags, [&first[..], &[Gate::Swap(a, b)], &last].concat());
-            for tag in [EXACT, ANGLED] {
-                out.plain(tag, &coded);
-                let flips = of(3, flags, [&first[..], &three(a, b), &last].concat());
-                let bytes = given_swaps(&coded);
-                out.add(tag, &flips, bytes);
-            }
+            let flips = of(3, flags, [&first[..], &three(a, b), &last].concat());
+            let (bytes, given) = (tape(&coded).expect("a tape"), given_swaps(&coded));
+            out.extend([(coded, bytes), (flips, given)]);
         }
     }
+    out
 }
 
 /// The tape of a list, with the matrix of each Swap in place of its code.
@@ -208,7 +192,7 @@ fn given_swaps(list: &List) -> Vec<u8> {
 }
 
 /// Reversed pairs, gates between, opaque blocks between, runs of diagonal gates.
-fn small(out: &mut Records) {
+fn small() -> Vec<List> {
     use Gate::*;
     let lists = [
         vec![],
@@ -245,11 +229,6 @@ fn small(out: &mut Records) {
             Sx(2),
         ],
     ];
-    for gates in lists {
-        for flags in [0, RELABEL] {
-            for tag in [EXACT, ANGLED] {
-                out.plain(tag, &of(4, flags, gates.clone()));
-            }
-        }
-    }
+    let with_flags = |gates: &Vec<Gate>| [0, RELABEL].map(|flags| of(4, flags, gates.clone()));
+    lists.iter().flat_map(with_flags).collect()
 }

@@ -3,7 +3,9 @@
 use oracle::families::FAMILIES;
 use oracle::list::{parse_many, List, SEPARATOR};
 use oracle::rng::Rng;
-use oracle::{check, classify, families, fused, leaves, run, selftest, state_lists, tape};
+use oracle::{
+    check, classify, compiled, families, fused, leaves, run, selftest, state_lists, tape,
+};
 use std::io::{self, BufWriter, Read, Write};
 use std::process::ExitCode;
 
@@ -16,6 +18,8 @@ oracle vector FILE               the answers beside those of a state vector
 oracle selftest SEED COUNT       the two module trees beside each other, COUNT lists a family
 oracle leaves [products]         the stored list of leaf results, or its second part, in binary
 oracle fuse LIST                 the stored list LIST of tapes and their items, in binary: cuts, mixed or angled
+oracle compile LIST              the stored list LIST of tapes and the answers of compile, in binary: edges, graphs,
+                                 exact or angled
 oracle classify LIST             the stored list LIST of blocks and their classes, in binary: gates, given or phases
 oracle state LIST                the stored list LIST of states and calls on them, in binary: signs, applies, queries,
                                  edges or samples";
@@ -47,6 +51,7 @@ fn command(words: &[&str]) -> Result<bool, String> {
         ["leaves"] => write_out(&leaves::leaves()).map(|()| true),
         ["leaves", "products"] => write_out(&leaves::more_products()).map(|()| true),
         ["fuse", list] => write_out(&fused::list(list)?).map(|()| true),
+        ["compile", list] => write_out(&compiled::list(list)?).map(|()| true),
         ["state", list] => write_out(&state_lists::list(list)?).map(|()| true),
         ["classify", list] => write_out(&classify::list(list)?).map(|()| true),
         _ => Err(USAGE.to_string()),

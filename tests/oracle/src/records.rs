@@ -36,6 +36,20 @@ impl Records {
         self.0.extend(floats.iter().map(|&x| word(x)));
     }
 
+    /// Adds a tape and what belongs to it: tag, the tape's length in bytes, how many words follow,
+    /// the tape, `body`. Nothing, and false, if there is no room.
+    pub fn tape(&mut self, tag: u64, bytes: &[u8], body: &[u64]) -> bool {
+        let tape = words_of(bytes);
+        let words = tape.len() + body.len();
+        let room = 8 * (self.0.len() + words + 4) <= LARGEST;
+        if room {
+            self.words(&[tag, bytes.len() as u64, words as u64]);
+            self.words(&tape);
+            self.words(body);
+        }
+        room
+    }
+
     /// The bytes of the list, with its end.
     pub fn bytes(mut self) -> Vec<u8> {
         self.0.push(END);
@@ -43,4 +57,10 @@ impl Records {
         assert!(bytes.len() <= LARGEST, "a list of {} bytes is too large", bytes.len());
         bytes
     }
+}
+
+/// Bytes as words, zeros after the last.
+fn words_of(bytes: &[u8]) -> Vec<u64> {
+    let word = |part: &[u8]| part.iter().rev().fold(0, |w, &b| w << 8 | u64::from(b));
+    bytes.chunks(8).map(word).collect()
 }

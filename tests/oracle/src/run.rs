@@ -94,7 +94,7 @@ fn ordering_name(r: &GaussianReport) -> &'static str {
 }
 
 /// A mark for each mode: 1 where a path starts, else 0.
-fn path_starts(r: &GaussianReport) -> Vec<usize> {
+pub fn path_starts(r: &GaussianReport) -> Vec<usize> {
     r.paths.iter().flat_map(|p| (0..p.len()).map(|k| (k == 0) as usize)).collect()
 }
 

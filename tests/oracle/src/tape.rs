@@ -53,6 +53,22 @@ pub fn tape(list: &List) -> Result<Vec<u8>, String> {
     Ok(out)
 }
 
+/// How many gates a whole tape has; labels are not counted.
+pub fn gates_on(bytes: &[u8]) -> usize {
+    let (mut at, mut gates) = (20, 0);
+    while at < bytes.len() {
+        let (mark, third) = (bytes[at + 1], bytes[at + 2]);
+        gates += usize::from(mark == GATE[1]);
+        at += match (mark == GATE[1], third) {
+            (false, length) => 3 + usize::from(length),
+            (true, GIVEN2) => 4 + 64,
+            (true, GIVEN4) => 5 + 256,
+            (true, code) => 4 + usize::from(code >> 4),
+        };
+    }
+    gates
+}
+
 /// The code of a gate.
 fn code(g: &Gate) -> u8 {
     let same_kind = |x: &Gate| std::mem::discriminant(x) == std::mem::discriminant(g);

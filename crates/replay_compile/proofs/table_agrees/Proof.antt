@@ -1,19 +1,18 @@
--- `replay_state::slices::words_hold` is safe and ends: it goes through the slice once.
--- Assumes nothing.
+-- `replay_compile::table_agrees` is safe and ends: it goes through the table once. Assumes nothing.
 use Prim.Native.Nat.{_≤_, _-_}
 use lib.ListN.{length}
 use borrow.Author.Needs.{needs}
-use Rattle.replay_state.proofs.slices.words_hold.Statement.{statement}
-use Rattle.replay_state.proofs.slices.words_hold.Tie as tie
+use Rattle.replay_compile.proofs.table_agrees.Statement.{statement}
+use Rattle.replay_compile.proofs.table_agrees.Tie as tie
 
 abbrev Inv-loop : tie.InvT-loop
-Inv-loop v s first i₀ i = i ≤ length v
+Inv-loop v s first n i₀ i = i ≤ length v
 
 abbrev μ-loop : tie.MeasureT-loop
-μ-loop v s first i₀ i = length v - i
+μ-loop v s first n i₀ i = length v - i
 
-pub words-hold-spec : {M : Type 1} → statement M
-words-hold-spec =
+pub table-agrees-spec : {M : Type 1} → statement M
+table-agrees-spec =
     tie.close
     (tie.spec
     Inv-loop
@@ -21,6 +20,7 @@ words-hold-spec =
     (λ c. search needs)
     (λ c. search needs)
     (λ c. search needs)
+    (λ c κs. search needs)
     (λ c κs. search needs)
     (λ c. search needs)
     (λ c. search needs)

@@ -1,19 +1,19 @@
--- `replay_state::slices::holds` is safe and ends: it goes through the slice once.
+-- `stored::slices::marked` is safe and ends: it goes through the slice once.
 -- Assumes nothing.
 use Prim.Native.Nat.{_≤_, _-_}
 use lib.ListN.{length}
 use borrow.Author.Needs.{needs}
-use Rattle.replay_state.proofs.slices.holds.Statement.{statement}
-use Rattle.replay_state.proofs.slices.holds.Tie as tie
+use Rattle.stored.proofs.slices.marked.Statement.{statement}
+use Rattle.stored.proofs.slices.marked.Tie as tie
 
 abbrev Inv-loop : tie.InvT-loop
-Inv-loop v s first i₀ i = i ≤ length v
+Inv-loop v zeros i₀ i = i ≤ length v
 
 abbrev μ-loop : tie.MeasureT-loop
-μ-loop v s first i₀ i = length v - i
+μ-loop v zeros i₀ i = length v - i
 
-pub holds-spec : {M : Type 1} → statement M
-holds-spec =
+pub marked-spec : {M : Type 1} → statement M
+marked-spec =
     tie.close
     (tie.spec
     Inv-loop
@@ -21,7 +21,6 @@ holds-spec =
     (λ c. search needs)
     (λ c. search needs)
     (λ c. search needs)
-    (λ c κs. search needs)
     (λ c κs. search needs)
     (λ c. search needs)
     (λ c. search needs)

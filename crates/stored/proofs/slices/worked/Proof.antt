@@ -1,10 +1,10 @@
--- `replay_state::slices::worked` is safe and ends: it goes through the slice once.
+-- `stored::slices::worked` is safe and ends: it goes through the slice once.
 -- Assumes nothing.
 use Prim.Native.Nat.{_≤_, _-_}
 use lib.ListN.{length}
 use borrow.Author.Needs.{needs}
-use Rattle.replay_state.proofs.slices.worked.Statement.{statement}
-use Rattle.replay_state.proofs.slices.worked.Tie as tie
+use Rattle.stored.proofs.slices.worked.Statement.{statement}
+use Rattle.stored.proofs.slices.worked.Tie as tie
 
 abbrev Inv-loop : tie.InvT-loop
 Inv-loop v zeros i₀ i = i ≤ length v

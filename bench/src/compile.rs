@@ -1,0 +1,202 @@
+//! The public `compile`, from the tape to the report and the operations: port and original on random lists.
+
+use crate::port::{self, Report};
+use oracle::compiled::answer::{answer, Compiled, PLACES};
+use oracle::compiled::graphs;
+use oracle::families::FAMILIES;
+use oracle::list::{List, RELABEL};
+use oracle::rng::Rng;
+use oracle::tape::tape;
+use original::gate::Gate;
+
+/// What stands in the lent slices before a call, and in the places that a call must leave alone.
+const OLD: u8 = 7;
+
+/// Lists of 128 wires and 1,024 blocks for each thousand of the others.
+const WIDE: usize = 2;
+
+// ---- the port's side
+
+/// Slices lent to the port, and its report.
+pub struct Lent {
+    work: Vec<f64>,
+    marks: Vec<u32>,
+    ops: Vec<f64>,
+    report: Report,
+}
+
+impl Lent {
+    /// For so many gates, qubits and operations; `more` places more than must be there.
+    pub fn new(gates: usize, n: usize, operations: usize, more: usize) -> Lent {
+        let records = gates + n;
+        Lent {
+            work: vec![OLD.into(); 64 * records + more],
+            marks: vec![OLD.into(); 32 * records + more],
+            ops: vec![OLD.into(); PLACES * operations + more],
+            report: Report { place: [1], words: [1; 14], measures: [1.0; 2], tables: [1; 384] },
+        }
+    }
+
+    pub fn compile(&mut self, tape: &[u8]) -> u64 {
+        port::compile(tape, &mut self.work, &mut self.marks, &mut self.ops, &mut self.report)
+    }
+
+    /// Whether work is zero but for its last places, and the last places of each slice are the old ones.
+    fn kept(&self, more: usize) -> bool {
+        let (zero, old) = self.work.split_at(self.work.len() - more);
+        let (none, mark) = self.marks.split_at(self.marks.len() - more);
+        let last = &self.ops[self.ops.len() - more..];
+        zero.iter().all(|x| x.to_bits() == 0)
+            && none.iter().all(|&x| x == 0)
+            && old.iter().chain(last).all(|&x| x == OLD.into())
+            && mark.iter().all(|&x| x == OLD.into())
+    }
+
+    /// The answer in the oracle's form; entries of tables from n on are left out if they are zero.
+    fn answer(&self, number: u64, n: usize, more: usize) -> Compiled {
+        let table = |k: usize| {
+            let (used, unused) = self.report.tables[128 * k..128 * (k + 1)].split_at(n);
+            let all = if unused.iter().all(|&x| x == 0) { used } else { unused };
+            all.iter().map(|&x| x.into()).collect()
+        };
+        Compiled {
+            refused: [number, self.report.place[0]],
+            report: self.report.words,
+            measures: self.report.measures,
+            tables: [table(0), table(1), table(2)],
+            ops: self.ops[..self.ops.len() - more].to_vec(),
+        }
+    }
+}
+
+// ---- comparison
+
+/// What was compared of a family.
+#[derive(Default)]
+struct Counts {
+    /// In every bit of report and operations.
+    exact: usize,
+    /// Angled ones: the same, where operations of diagonal blocks are document 01's.
+    angled: usize,
+    /// Angled ones that document 01 does not compare, and how many of these differ.
+    apart: usize,
+    apart_differ: usize,
+    operations: usize,
+    /// Lists by ordering.
+    orderings: [usize; 3],
+    differ: usize,
+    smallest: Option<List>,
+}
+
+/// What both sides make of a list.
+struct Sides {
+    want: Compiled,
+    got: Compiled,
+    same: bool,
+    /// Document 01 does not compare the two here.
+    apart: bool,
+}
+
+fn sides(list: &List) -> Sides {
+    let (want, seen) = answer(list);
+    let (got, kept) = ported(list, want.ops.len() / PLACES);
+    let same = want.words() == got.words() && kept;
+    Sides { want, got, same, apart: seen.apart }
+}
+
+/// Whether both sides answer the same.
+pub fn same(list: &List) -> bool {
+    sides(list).same
+}
+
+/// The port's answer with room for so many operations, and whether the slices are as they must be afterwards.
+fn ported(list: &List, operations: usize) -> (Compiled, bool) {
+    let (gates, more) = (list.gates.len(), list.gates.len() % 3);
+    let mut lent = Lent::new(gates, list.n, operations, more);
+    let number = lent.compile(&tape(list).expect("a tape"));
+    (lent.answer(number, list.n, more), lent.kept(more))
+}
+
+impl Counts {
+    fn add(&mut self, list: List) {
+        let Sides { want, same, apart, .. } = sides(&list);
+        if apart {
+            self.apart += 1;
+            self.apart_differ += usize::from(!same);
+            return;
+        }
+        *(if want.report[12] == 1 { &mut self.angled } else { &mut self.exact }) += 1;
+        self.operations += want.ops.len() / PLACES;
+        self.orderings[want.report[13] as usize] += 1;
+        if !same {
+            self.differ += 1;
+            let list = shrunk(list);
+            if self.smallest.as_ref().is_none_or(|s| list.gates.len() < s.gates.len()) {
+                self.smallest = Some(list);
+            }
+        }
+    }
+
+    /// Prints the counts and the smallest list that differs; whether none does.
+    fn end(self, name: &str) -> bool {
+        let [identity, paths, greedy] = self.orderings;
+        println!(
+            "compile {name:<10} {} exact, {} angled, {} differ; {} operations; identity {identity}, paths {paths}, \
+             greedy {greedy}; not compared {}, of which {} differ",
+            self.exact, self.angled, self.differ, self.operations, self.apart, self.apart_differ
+        );
+        if let Some(list) = &self.smallest {
+            let Sides { want, got, .. } = sides(list);
+            println!("{list}original {want:?}\nport {got:?}");
+        }
+        self.differ == 0
+    }
+}
+
+/// Leaves out gates as long as the answers still differ.
+fn shrunk(mut list: List) -> List {
+    list.queries.clear();
+    let mut k = 0;
+    while k < list.gates.len() {
+        let mut less = list.clone();
+        less.gates.remove(k);
+        match sides(&less) {
+            Sides { same: false, apart: false, .. } => (list, k) = (less, 0),
+            _ => k += 1,
+        }
+    }
+    list
+}
+
+/// Compares `count` lists of each family, of small graphs, and some of 128 wires.
+pub fn compare(rng: &mut Rng, count: usize) -> bool {
+    let mut well = true;
+    for (name, family) in FAMILIES {
+        well &= family_of(name, count, || family(&mut rng.split()));
+    }
+    well &= family_of("graphs", count, || graphs::random_list(rng, false));
+    well &= family_of("wide", (count * WIDE).div_ceil(1000), || graphs::random_list(rng, true));
+    well & known_differences()
+}
+
+/// The lists of docs/DIFFERENCES.md with a tolerance below 1e-12 that are an interaction on one side only.
+fn known_differences() -> bool {
+    use Gate::*;
+    let of = |flags, gates| List { n: 2, flags, tol: 0.0, limit: 0, gates, queries: vec![] };
+    let lists = [
+        (of(RELABEL, vec![Phase(0, 3.0), ISwap(0, 1), Cz(0, 1)]), [1, 0]),
+        (of(0, vec![Cz(0, 1), Rz(1, 0.3), Phase(0, 2.0), Cz(0, 1)]), [0, 1]),
+    ];
+    let differs = |(list, interactions): &&(List, [u64; 2])| {
+        [answer(list).0.report[6], ported(list, 3).0.report[6]] == *interactions
+    };
+    let found = lists.iter().filter(differs).count();
+    println!("compile known differences: {found} of {}", lists.len());
+    found == lists.len()
+}
+
+fn family_of(name: &str, count: usize, mut list: impl FnMut() -> List) -> bool {
+    let mut counts = Counts::default();
+    (0..count).for_each(|_| counts.add(list()));
+    counts.end(name)
+}

@@ -1,0 +1,266 @@
+// Replays the stored tapes through `compile` and prints how many answers agree with those of the original: the number and the place of a refusal, every
+// field of the report, every place of the operation slice, and what is left in the lent work.
+ghost use Prim.Native.Nat.{_≤_};
+ghost use lib.ListN.{length};
+use detect::Answer;
+use detect::Compiled;
+use detect::Report;
+use libc::STDOUT_FILENO;
+use order::Ordering;
+use stored::Tally;
+
+// Comparisons.
+const ANSWERS: u64 = 0;
+
+const REPORTS: u64 = 1;
+
+const TABLES: u64 = 2;
+
+const OPERATIONS: u64 = 3;
+
+const WORK: u64 = 4;
+
+// Words of a record after the tape: the lengths of the lent slices, how many places of work are zero afterwards, number and place, the report, fraction
+// and residual, the tables, the operation slice.
+const ZEROS: usize = 3;
+
+const ANSWER: usize = 5;
+
+const REPORT: usize = 7;
+
+const TABLE: usize = 23;
+
+// ---- the answer
+
+fn answer_agrees(a: Answer, s: &[u8]) -> bool {
+    match a {
+        Answer::Done => stored::word(s, ANSWER) == 0 && stored::word(s, ANSWER + 1) == 0,
+        Answer::Refused { number, place } => number as u64 == stored::word(s, ANSWER)
+            && place as u64 == stored::word(s, ANSWER + 1),
+    }
+}
+
+// ---- the report
+
+fn flag(x: bool) -> u64 {
+    if x { 1 } else { 0 }
+}
+
+fn ordering(o: Ordering) -> u64 {
+    match o {
+        Ordering::Identity => 0,
+        Ordering::Paths => 1,
+        Ordering::Greedy => 2,
+    }
+}
+
+fn words_of(r: Report) -> [u64; 16] {
+    let o = r.ordering;
+    [
+        r.n as u64,
+        r.blocks as u64,
+        r.two as u64,
+        r.gaussian as u64,
+        r.bad as u64,
+        r.nonadjacent as u64,
+        r.interactions as u64,
+        r.swaps as u64,
+        r.operations as u64,
+        flag(r.conserving),
+        flag(r.exact),
+        flag(r.free),
+        flag(r.angled),
+        ordering(o),
+        num::to_bits(r.fraction),
+        num::to_bits(r.residual),
+    ]
+}
+
+fn report_agrees(r: Report, s: &[u8]) -> bool {
+    let words = words_of(r);
+    stored::words_hold(&words, s, REPORT)
+}
+
+fn wide(x: u16) -> u64 {
+    x as u64
+}
+
+// Word i of a table of n entries; 0 beyond it.
+fn entry(s: &[u8], first: usize, i: usize, n: usize) -> u64 {
+    if i < n {
+        return stored::word_from(s, first, i);
+    }
+    0
+}
+
+fn table_agrees(v: &[u16], s: &[u8], first: usize, n: usize) -> bool {
+    let mut i = 0;
+    while i < v.len() {
+        if wide(v[i]) != entry(s, first, i, n) {
+            return false;
+        }
+        i += 1;
+    }
+    true
+}
+
+fn tables_agree(r: Report, s: &[u8], n: usize) -> bool
+    requires { ⌜ n ≤ 128 ⌝ }
+{
+    let order = r.order;
+    let starts = r.starts;
+    let modes = r.modes;
+    if table_agrees(&order, s, TABLE, n) && table_agrees(&starts, s, TABLE + n, n) {
+        return table_agrees(&modes, s, TABLE + 2 * n, n);
+    }
+    false
+}
+
+// ---- the slices
+
+// Every place is compared by itself.
+fn places_agree(ops: &[f64], s: &[u8], first: usize) -> Tally {
+    let mut t = stored::nothing();
+    let mut i = 0;
+    while i < ops.len() {
+        let x = num::to_bits(ops[i]);
+        t = stored::plus(t, stored::tally_of(x == stored::word_from(s, first, i)));
+        i += 1;
+    }
+    t
+}
+
+fn work_agrees(w: &[f64], u: &[u32], s: &[u8]) -> bool {
+    let zeros = stored::word(s, ZEROS) as usize;
+    let none = stored::word(s, ZEROS + 1) as usize;
+    stored::worked(w, zeros) && stored::marked(u, none)
+}
+
+// ---- tapes
+
+fn compiled_agrees(
+    what: u64,
+    tape: &[u8],
+    w: &mut [f64],
+    u: &mut [u32],
+    ops: &mut [f64],
+    s: &[u8],
+) -> Tally {
+    let c = detect::compile(tape, w, u, ops);
+    let n = stored::word(s, REPORT) as usize;
+    if 128 < n {
+        return stored::tally_of(false);
+    }
+    if what == ANSWERS {
+        let a = c.answer;
+        return stored::tally_of(answer_agrees(a, s));
+    }
+    if what == WORK {
+        return stored::tally_of(work_agrees(w, u, s));
+    }
+    if what == OPERATIONS {
+        return places_agree(ops, s, TABLE + 3 * n);
+    }
+    let r = c.report;
+    if what == REPORTS {
+        return stored::tally_of(report_agrees(r, s));
+    }
+    stored::tally_of(tables_agree(r, s, n))
+}
+
+// With slices of the lengths that the record names.
+fn lent_agrees(
+    what: u64,
+    tape: &[u8],
+    w: &mut [f64],
+    u: &mut [u32],
+    ops: &mut [f64],
+    s: &[u8],
+) -> Tally {
+    let floats = stored::word(s, 0) as usize;
+    let marks = stored::word(s, 1) as usize;
+    let places = stored::word(s, 2) as usize;
+    if w.len() < floats {
+        return stored::tally_of(false);
+    }
+    if u.len() < marks {
+        return stored::tally_of(false);
+    }
+    if ops.len() < places {
+        return stored::tally_of(false);
+    }
+    compiled_agrees(
+        what,
+        tape,
+        &mut w[0..floats],
+        &mut u[0..marks],
+        &mut ops[0..places],
+        s,
+    )
+}
+
+// Room for 1,024 gates on 128 qubits.
+fn tape_agrees(what: u64, tape: &[u8], s: &[u8]) -> Tally {
+    let mut w = [7.0; 73760];
+    let mut u: [u32; 36880] = [7; 36880];
+    let mut ops = [7.0; 1024];
+    lent_agrees(what, tape, &mut w, &mut u, &mut ops, s)
+}
+
+// A record: the length of the tape, the number of words after this one, the tape, the answer.
+fn agrees(what: u64, s: &[u8]) -> Tally {
+    let size = stored::word(s, 0) as usize;
+    if 60000 < size {
+        return stored::tally_of(false);
+    }
+    let whole = 8 * ((size + 7) / 8);
+    if s.len() < 16 + whole {
+        return stored::tally_of(false);
+    }
+    tape_agrees(what, &s[16..16 + size], &s[16 + whole..])
+}
+
+// A list has fewer than 1,024 records.
+fn count(s: &[u8], what: u64) -> Tally {
+    let mut t = stored::nothing();
+    let mut at = 0;
+    let mut k: usize = 0;
+    while k < 1024 {
+        let r = stored::record_at(s, at, stored::size_at(s, at, 1));
+        let from = r.from;
+        let to = r.to;
+        if r.tag == 0 {
+            return t;
+        }
+        t = stored::plus(t, agrees(what, &s[from..to]));
+        at = to;
+        k += 1;
+    }
+    t
+}
+
+fn replay(path: &[u8]) {
+    let fd = os::open_read(path);
+    if fd < 0 {
+        os::fail(path);
+        return;
+    }
+    let mut space = io::large_buffer();
+    let n = io::read_full(fd, &mut space);
+    libc::close(fd);
+    let s = &space[..n];
+    io::write_all(STDOUT_FILENO, path);
+    io::write_all(STDOUT_FILENO, b"\n");
+    stored::print_tally(b"numbers and places", count(s, ANSWERS));
+    stored::print_tally(b"reports", count(s, REPORTS));
+    stored::print_tally(b"tables", count(s, TABLES));
+    stored::print_tally(b"operation places", count(s, OPERATIONS));
+    stored::print_tally(b"work afterwards", count(s, WORK));
+}
+
+fn main() {
+    replay(b"edges.bin");
+    replay(b"graphs.bin");
+    replay(b"exact.bin");
+    replay(b"angled.bin");
+}
