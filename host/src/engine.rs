@@ -1,0 +1,334 @@
+//! The engine, safely: the calls of the static library (include/jozkeral.h) on Rust's types. The
+//! library keeps nothing and allocates nothing; each call here lends it slices that are long enough
+//! for every tape of at most 128 qubits and 1,024 gates.
+
+use crate::library as c;
+
+#[cfg(test)]
+pub mod fake;
+
+/// Most qubits and most gates of a tape.
+pub const MAX_QUBITS: usize = 128;
+pub const MAX_GATES: usize = 1024;
+/// Most shots of one call of `sample`.
+pub const MAX_SHOTS: usize = 65_536;
+
+/// f64 places of one operation.
+const OPERATION: usize = 18;
+
+/// The question that has no for an answer (its number, 1 to 22), and the place that it names.
+#[derive(Clone, Copy, Debug, PartialEq, Eq)]
+pub struct Refusal {
+    pub number: u64,
+    pub place: u64,
+}
+
+/// How the order of the wires was chosen.
+#[derive(Clone, Copy, Debug, PartialEq, Eq)]
+pub enum Ordering {
+    Identity,
+    Paths,
+    Greedy,
+}
+
+/// What the detector found.
+#[derive(Clone, Debug, PartialEq)]
+pub struct Report {
+    pub n: usize,
+    pub blocks: u64,
+    pub two_qubit: u64,
+    pub gaussian: u64,
+    pub bad: u64,
+    pub nonadjacent: u64,
+    pub interactions: u64,
+    pub swaps: u64,
+    pub number_conserving: bool,
+    pub exact: bool,
+    pub free: bool,
+    pub angled: bool,
+    pub ordering: Ordering,
+    /// The part of the blocks that is Gaussian.
+    pub fraction: f64,
+    pub max_residual: f64,
+    /// The wire on each mode.
+    pub order: Vec<usize>,
+    /// Whether a path starts at each mode.
+    pub starts: Vec<bool>,
+    /// The mode of each qubit at the end.
+    pub modes: Vec<usize>,
+}
+
+/// One step of a compiled tape, on modes.
+#[derive(Clone, Debug, PartialEq)]
+pub enum Operation {
+    /// A map of one mode, row by row.
+    One { mode: usize, map: [f64; 4] },
+    /// A map of a mode and the next, row by row.
+    Two { mode: usize, map: [f64; 16] },
+    /// An interaction of two modes, which a run leaves out: the block's number in time order, and
+    /// the unit (cos g, sin g) of its phase g.
+    Interaction { modes: (usize, usize), block: usize, unit: (f64, f64) },
+}
+
+impl Operation {
+    /// Its places in the library's slice: kind, mode, 16 numbers.
+    fn places(&self) -> [f64; OPERATION] {
+        let mut places = [0.0; OPERATION];
+        match self {
+            Operation::One { mode, map } => {
+                (places[0], places[1]) = (1.0, *mode as f64);
+                places[2..6].copy_from_slice(map);
+            }
+            Operation::Two { mode, map } => {
+                (places[0], places[1]) = (2.0, *mode as f64);
+                places[2..].copy_from_slice(map);
+            }
+            Operation::Interaction { modes, block, unit } => {
+                let numbers = [3.0, modes.0 as f64, *block as f64, modes.1 as f64, unit.0, unit.1];
+                places[..6].copy_from_slice(&numbers);
+            }
+        }
+        places
+    }
+
+    /// The operation of its places.
+    fn of(places: &[f64]) -> Operation {
+        let mode = places[1] as usize;
+        match places[0] as u8 {
+            1 => Operation::One { mode, map: std::array::from_fn(|i| places[2 + i]) },
+            2 => Operation::Two { mode, map: std::array::from_fn(|i| places[2 + i]) },
+            _ => Operation::Interaction {
+                modes: (mode, places[3] as usize),
+                block: places[2] as usize,
+                unit: (places[4], places[5]),
+            },
+        }
+    }
+}
+
+/// A tape's report and operations. There are no operations where a block is bad.
+#[derive(Clone, Debug)]
+pub struct Compiled {
+    pub report: Report,
+    pub operations: Vec<Operation>,
+}
+
+/// A state, for the queries: the library's slice and mode table.
+#[derive(Clone, Debug)]
+pub struct State {
+    n: usize,
+    places: Vec<f64>,
+    modes: Vec<u16>,
+}
+
+impl State {
+    /// All qubits 0, with the identity as mode table.
+    pub fn vacuum(n: usize) -> State {
+        let dim = 2 * n;
+        let mut places = vec![0.0; dim * dim + dim];
+        for k in (0..dim).step_by(2) {
+            places[k * dim + k + 1] = 1.0;
+            places[(k + 1) * dim + k] = -1.0;
+        }
+        places[dim * dim..].fill(1.0);
+        State { n, places, modes: (0..n as u16).collect() }
+    }
+
+    pub fn n(&self) -> usize {
+        self.n
+    }
+
+    fn parts(&self) -> c::Of<'_> {
+        (self.n, &self.places, &self.modes)
+    }
+}
+
+/// A tape that was run.
+#[derive(Clone, Debug)]
+pub struct Run {
+    pub compiled: Compiled,
+    pub state: State,
+}
+
+/// What the tool asks of an engine.
+pub trait Engine {
+    /// The report and the operations: questions 1 to 10.
+    fn compile(&self, tape: &[u8]) -> Result<Compiled, Refusal>;
+    /// The state after all gates: questions 1 to 15.
+    fn run(&self, tape: &[u8]) -> Result<Run, Refusal>;
+    fn expectation_z(&self, state: &State, qubit: usize) -> Result<f64, Refusal>;
+    /// The expectation of a product of Z.
+    fn expectation_z_product(&self, state: &State, qubits: &[usize]) -> Result<f64, Refusal>;
+    /// The probability that the qubits have these bits.
+    fn marginal_probability(
+        &self,
+        state: &State,
+        qubits: &[usize],
+        bits: &[u8],
+    ) -> Result<f64, Refusal>;
+    /// The probability of a basis index; qubit q is its bit q.
+    fn probability(&self, state: &State, index: u128) -> Result<f64, Refusal>;
+    /// Shots as basis indices, from n draws each.
+    fn sample(&self, state: &State, shots: usize, draws: &[f64]) -> Result<Vec<u128>, Refusal>;
+}
+
+/// The proved engine.
+pub struct Library;
+
+/// Calls that the tool has no need of.
+impl Library {
+    /// A label of the tape, counted from 0, as the part of the tape itself. `None` if there is none,
+    /// or the tape would be refused by questions 1 to 8.
+    pub fn label<'a>(&self, tape: &'a [u8], which: usize) -> Option<&'a [u8]> {
+        let [start, length] = c::label(tape, which);
+        (start > 0).then(|| &tape[start as usize..][..length as usize])
+    }
+
+    /// Applies an operation to a state: questions 16 and 17.
+    pub fn apply(&self, state: &mut State, operation: &Operation) -> Result<(), Refusal> {
+        let number = c::apply(state.n, &mut state.places, &state.modes, &operation.places());
+        if number != 0 {
+            return Err(Refusal { number, place: 0 });
+        }
+        Ok(())
+    }
+
+    /// The expectation of a product of two Z.
+    pub fn z_correlation(&self, s: &State, i: usize, j: usize) -> Result<f64, Refusal> {
+        let mut work = query_work(s.n);
+        answer(|place, value| c::z_correlation(s.parts(), i, j, &mut work, place, value))
+    }
+}
+
+impl Engine for Library {
+    fn compile(&self, tape: &[u8]) -> Result<Compiled, Refusal> {
+        let mut lent = Lent::new();
+        let number =
+            c::compile(tape, &mut lent.work, &mut lent.marks, &mut lent.ops, &mut lent.said);
+        lent.compiled(number)
+    }
+
+    fn run(&self, tape: &[u8]) -> Result<Run, Refusal> {
+        let mut lent = Lent::new();
+        let n = tape.get(2).map_or(0, |n| usize::from(*n).min(MAX_QUBITS));
+        let mut places = vec![0.0; 4 * n * n + 2 * n];
+        let number = c::run(
+            tape,
+            &mut lent.work,
+            &mut lent.marks,
+            &mut lent.ops,
+            &mut places,
+            &mut lent.said,
+        );
+        let compiled = lent.compiled(number)?;
+        let modes = compiled.report.modes.iter().map(|k| *k as u16).collect();
+        Ok(Run { compiled, state: State { n, places, modes } })
+    }
+
+    fn expectation_z(&self, s: &State, qubit: usize) -> Result<f64, Refusal> {
+        answer(|place, value| c::expectation_z(s.parts(), qubit, place, value))
+    }
+
+    fn expectation_z_product(&self, s: &State, qubits: &[usize]) -> Result<f64, Refusal> {
+        let mut work = query_work(s.n);
+        answer(|place, value| c::expectation_z_product(s.parts(), qubits, &mut work, place, value))
+    }
+
+    fn marginal_probability(
+        &self,
+        s: &State,
+        qubits: &[usize],
+        bits: &[u8],
+    ) -> Result<f64, Refusal> {
+        let mut work = query_work(s.n);
+        answer(|place, value| {
+            c::marginal_probability(s.parts(), qubits, bits, &mut work, place, value)
+        })
+    }
+
+    fn probability(&self, s: &State, index: u128) -> Result<f64, Refusal> {
+        let mut work = query_work(s.n);
+        let (low, high) = (index as u64, (index >> 64) as u64);
+        answer(|_, value| c::probability(s.parts(), low, high, &mut work, value))
+    }
+
+    fn sample(&self, s: &State, shots: usize, draws: &[f64]) -> Result<Vec<u128>, Refusal> {
+        let mut work = query_work(s.n);
+        let mut out = vec![0; 2 * shots.min(MAX_SHOTS)];
+        answer(|place, _| c::sample(s.parts(), shots, draws, &mut work, &mut out, place))?;
+        Ok(out.chunks(2).map(|w| u128::from(w[1]) << 64 | u128::from(w[0])).collect())
+    }
+}
+
+/// Work for a query: dim² places for the largest dimension.
+fn query_work(n: usize) -> Vec<f64> {
+    vec![0.0; 4 * n.min(MAX_QUBITS).pow(2)]
+}
+
+/// Makes a call that returns its number and writes its place and its value.
+fn answer(call: impl FnOnce(&mut [u64], &mut [f64]) -> u64) -> Result<f64, Refusal> {
+    let (mut place, mut value) = ([0], [0.0]);
+    match call(&mut place, &mut value) {
+        0 => Ok(value[0]),
+        number => Err(Refusal { number, place: place[0] }),
+    }
+}
+
+/// What is lent to compile or run a tape.
+struct Lent {
+    work: Vec<f64>,
+    marks: Vec<u32>,
+    ops: Vec<f64>,
+    said: c::Said,
+}
+
+impl Lent {
+    /// Room for the largest tape: questions 9 and 10. A block becomes at most three operations, two
+    /// rotations and an interaction.
+    fn new() -> Lent {
+        let records = MAX_GATES + MAX_QUBITS;
+        Lent {
+            work: vec![0.0; 64 * records],
+            marks: vec![0; 32 * records],
+            ops: vec![0.0; OPERATION * 3 * records],
+            said: c::Said::new(),
+        }
+    }
+
+    /// What the library wrote, if the number says that it accepted.
+    fn compiled(&self, number: u64) -> Result<Compiled, Refusal> {
+        if number != 0 {
+            return Err(Refusal { number, place: self.said.place[0] });
+        }
+        let count = self.said.report[8] as usize;
+        let operations = self.ops.chunks(OPERATION).take(count).map(Operation::of).collect();
+        Ok(Compiled { report: report(&self.said), operations })
+    }
+}
+
+/// The report from the library's words and tables.
+fn report(said: &c::Said) -> Report {
+    let w = &said.report;
+    let n = w[0] as usize;
+    let table = |k: usize| said.tables[k * MAX_QUBITS..][..n].iter().map(|x| usize::from(*x));
+    Report {
+        n,
+        blocks: w[1],
+        two_qubit: w[2],
+        gaussian: w[3],
+        bad: w[4],
+        nonadjacent: w[5],
+        interactions: w[6],
+        swaps: w[7],
+        number_conserving: w[9] != 0,
+        exact: w[10] != 0,
+        free: w[11] != 0,
+        angled: w[12] != 0,
+        ordering: [Ordering::Identity, Ordering::Paths, Ordering::Greedy][w[13] as usize],
+        fraction: said.measures[0],
+        max_residual: said.measures[1],
+        order: table(0).collect(),
+        starts: table(1).map(|x| x != 0).collect(),
+        modes: table(2).collect(),
+    }
+}

@@ -1,0 +1,165 @@
+//! Refusals in words: what the question with a number asks, why the answer was no, and what to do
+//! about it.
+
+use crate::engine::{Compiled, Engine, Refusal, MAX_GATES};
+use crate::source::{Placed, Source};
+use crate::tape::Record;
+use crate::wording::{are, count};
+
+/// A refusal of a list or tape.
+#[derive(Debug, PartialEq)]
+pub struct Refused {
+    pub refusal: Refusal,
+    /// What it is about: a line, a record, the place where a list stops being accepted.
+    pub place: Option<String>,
+    pub line: Option<usize>,
+    pub why: String,
+    pub advice: String,
+}
+
+/// Explains the refusal of a source; `compiled` is what `compile` said of it, if it got so far.
+pub fn explain(
+    refusal: Refusal,
+    source: &Source,
+    compiled: Option<&Compiled>,
+    engine: &dyn Engine,
+) -> Refused {
+    let number = refusal.number;
+    let record = if (4..=8).contains(&number) { source.at(refusal.place) } else { None };
+    let why = match compiled {
+        Some(compiled) => why_not_run(number, source, compiled),
+        None => why_no_tape(number, source, record),
+    };
+    let (place, line) = match number {
+        4..=8 => at_record(refusal, source, record),
+        11..=13 => stops_at(source, engine),
+        _ => (None, None),
+    };
+    Refused { refusal, place, line, why, advice: advice(number, source).to_string() }
+}
+
+fn at_record(
+    refusal: Refusal,
+    source: &Source,
+    record: Option<&Placed>,
+) -> (Option<String>, Option<usize>) {
+    match record {
+        Some(p) => (Some(format!("{}, `{}`", p.place(), source.text(p))), p.line),
+        None => (Some(format!("byte {}", refusal.place)), None),
+    }
+}
+
+/// Questions 1 to 8, and 9 and 10 for completeness.
+fn why_no_tape(number: u64, source: &Source, record: Option<&Placed>) -> String {
+    let n = source.header().map_or(0, |h| h.qubits);
+    let qubits = match record.map(|p| &p.record) {
+        Some(Record::Gate { qubits, .. }) => qubits.as_slice(),
+        _ => &[],
+    };
+    match number {
+        1 => "there is no whole header".into(),
+        2 => "there are more than 128 qubits, or flags above 7".into(),
+        3 => "the tolerance is no number from 0 to 0.001".into(),
+        4 => format!("there are more than {MAX_GATES} gates, and this is the first of them"),
+        5 => "the record is cut short, or its mark, code or label is unknown".into(),
+        6 => {
+            let high = qubits.iter().find(|q| **q >= n).map_or(String::new(), |q| format!(" {q}"));
+            format!("qubit{high} is not below {n}")
+        }
+        7 => "a gate names the same qubit twice".into(),
+        8 => "an entry of the matrix is not finite, or its magnitude is above 2".into(),
+        _ => lent_too_little(number),
+    }
+}
+
+fn lent_too_little(number: u64) -> String {
+    format!(
+        "the tool lent the engine too little room (question {number}), which is the tool's fault"
+    )
+}
+
+/// Questions 11 to 15.
+fn why_not_run(number: u64, source: &Source, compiled: &Compiled) -> String {
+    let r = &compiled.report;
+    let of_blocks = |k: u64| format!("{k} of {}", count(r.blocks, "block"));
+    match number {
+        11 => format!(
+            "there are matchgates whose wires are no neighbours in the order: {}",
+            of_blocks(r.nonadjacent)
+        ),
+        12 => format!(
+            "the circuit is not free-fermion: {} {} neither matchgate nor diagonal",
+            of_blocks(r.bad - r.nonadjacent),
+            are(r.bad - r.nonadjacent)
+        ),
+        13 => format!(
+            "there are interactions (controlled phases), which free fermions do not have: {}",
+            of_blocks(r.interactions)
+        ),
+        14 => {
+            let (need, limit) = source.header().map_or((0, 0), |h| (h.covariance_bytes(), h.limit));
+            format!("the covariance matrix needs {need} bytes, and the limit is {limit}")
+        }
+        _ => lent_too_little(number),
+    }
+}
+
+/// What to do about a refusal.
+fn advice(number: u64, source: &Source) -> &'static str {
+    let header = source.header();
+    match number {
+        1 => "is this a tape? It begins with the bytes 51 48 and has a header of 20 bytes",
+        2 => "set the number of qubits: --set qubits=N, at most 128",
+        3 => "set the tolerance: --set tolerance=1e-10",
+        4 => "write gates that follow each other on the same qubits as one matrix",
+        5 => "see how the tape was made; --dump shows what can be read of it",
+        6 => "correct the qubit, or the number of qubits",
+        7 => "name different qubits",
+        8 => "give a unitary matrix",
+        11 if header.is_some_and(|h| !h.reorder) => {
+            "let the engine look for an order: --set reorder=on"
+        }
+        11 => {
+            "the pairs of wires with matchgates must form paths, without branches and rings: leave \
+             out the bond that closes a ring, or move a wire there by swaps (with relabel on)"
+        }
+        12 => {
+            "write the gates of a matchgate next to each other on its pair of qubits, so that they \
+             fuse into one block; a lone h, cnot or ccx is none. Another simulator is needed if \
+             the circuit has no such form"
+        }
+        13 => {
+            "leave out the controlled phases, or have them left out: --set drop=on answers for the \
+             free part alone, which is not the whole circuit"
+        }
+        14 => "raise the limit: --set limit=BYTES",
+        _ => "please report it with the list",
+    }
+}
+
+/// Where a list stops being accepted: the gate after its longest beginning that is.
+fn stops_at(source: &Source, engine: &dyn Engine) -> (Option<String>, Option<usize>) {
+    let drop = source.header().is_some_and(|h| h.drop);
+    let accepted = |k: &usize| match engine.compile(source.beginning(*k)) {
+        Ok(c) => c.report.bad == 0 && (drop || c.report.interactions == 0),
+        Err(_) => false,
+    };
+    let last = (0..source.gates()).rev().find(accepted);
+    let Some(next) = last.and_then(|k| source.gate(k + 1)) else { return (None, None) };
+    let text = source.text(next);
+    (
+        Some(format!("{}, `{text}`: accepted before it, and never from it on", next.place())),
+        next.line,
+    )
+}
+
+/// Why a question about an accepted run was refused.
+pub fn query_refused(refusal: Refusal, n: usize) -> String {
+    let place = refusal.place + 1;
+    match refusal.number {
+        18 => "as many bits as qubits are needed, each 0 or 1".into(),
+        19 => format!("qubit {place} of the list is not below {n}"),
+        22 => format!("draw {place} is not from 0 and below 1"),
+        number => lent_too_little(number),
+    }
+}
