@@ -3,3 +3,6 @@ pub mod Verdicts
 pub mod Answering
 pub mod Accepted
 pub mod Claim
+pub mod Expectation
+pub mod Rows
+pub mod Edges
