@@ -3,46 +3,34 @@
 use mathlib.Core.Path.{_≡_, refl, sym, _∙_, subst}
 use mathlib.Core.Logic.{_⊎_, inl, inr, _≢_}
 use mathlib.Core.Bool.{Bool, true, false, cond, _&&_}
-use mathlib.Core.List.{List, [], _∷_}
-use Prim.Native.Nat.{ℕ, zero, suc, _+_, _*_, _%_, _≤_, _<_}
+use mathlib.Core.List.{List}
+use Prim.Native.Nat.{ℕ, _+_, _*_, _%_, _≤_, _<_}
 use native.Mathlib.Omega.{arith}
-use lib.Dec.{T, eqb, lit<}
+use lib.Dec.{T, eqb}
 use lib.IntN.{pos, negℤ}
-use lib.ListN.{getD}
-use lib.Seq.{ext-getD}
-use lib.Ieee.{Float, nan, binary64, mul, neg, fits}
+use lib.Ieee.{Float, binary64, mul, neg, fits}
 use lib.Ieee.Fits.{mul-fits}
 use Rattle.laws.specs.Zeros.{+0, +1}
 use Rattle.laws.specs.Dyadic.{Dy}
-use Rattle.laws.specs.Matrix.{Mat}
+use Rattle.real.specs.Maps.{entry2, entry4}
 use Rattle.gate.specs.declared.complex.Complex.{Complex}
 use Rattle.gate.specs.declared.matrix.Mat2.{Mat2}
 use Rattle.gate.specs.declared.matrix.Mat4.{Mat4}
 use Rattle.majorana.specs.Majorana.{majoranaMap1Of, majoranaMap2Of}
 use Rattle.majorana.specs.Diagonal.{unitOf, rotationMapOf}
-use Rattle.majorana.specs.declared.maps.Real2 as majoranaRow2
-use Rattle.majorana.specs.declared.maps.Map2 as majorana2
-use Rattle.majorana.specs.declared.maps.Real4 as majoranaRow4
-use Rattle.majorana.specs.declared.maps.Map4 as majorana4
 use Rattle.monomial.specs.Phase.{Phase}
 use Rattle.monomial.specs.Monomial.{unit, IsEntry, flip, Mono2, Mono4, Has2, Has4, bitA, bitB, Fits}
-use Rattle.monomial.specs.Basis.{basis, real2At, map2At, real4At, map4At}
-use Rattle.monomial.proofs.States.{modesAt, fits-state, single-state, rotation-state}
+use Rattle.monomial.specs.Basis.{basis}
+use Rattle.monomial.proofs.States.{fits-state, single-state, rotation-state}
 use Rattle.state.specs.Bounds.{maxQubits, dimOf}
 use Rattle.state.specs.State.{State, Stored, stateAt, vacuum, get}
-use Rattle.state.specs.Maps.{row2, row4, entry2, entry4}
 use Rattle.state.specs.Det.{odd}
-use Rattle.state.specs.Apply.{step}
 use Rattle.state.specs.Operation.{effect}
 use Rattle.state.specs.Modes.{modeAt, isPermutation}
-use Rattle.state.specs.declared.maps.Real2.{Real2}
-use Rattle.state.specs.declared.maps.Map2.{Map2}
-use Rattle.state.specs.declared.maps.Real4.{Real4}
-use Rattle.state.specs.declared.maps.Map4.{Map4}
 use Rattle.state.specs.declared.operation.Operation.the-variants.{One, Two}
 use Rattle.state.proofs.Stored.{Alike, read-back}
 use Rattle.queries.specs.Calls.{covarianceOf}
-use Rattle.basis.specs.Holds.{Holds, Same2, Same4, Reads}
+use Rattle.basis.specs.Holds.{Holds, Reads}
 use Rattle.basis.proofs.Settling.{get-basis, step-holds}
 
 -- ---- the vacuum
@@ -59,64 +47,36 @@ vacuum-holds n = record {
   signs = λ k h. (false, refl, refl);
 }
 
--- ---- a map of the state that is a map of the detector, as functions
-
-row2-same : (v : Real2) (w : majoranaRow2.Real2) → ((j : ℕ) → j < 2 → row2 v j ≡ real2At w j) → row2 v ≡ real2At w
-row2-same v w e = λ t j. getD (ext-getD nan (v .x0 ∷ v .x1 ∷ []) (w .x0 ∷ w .x1 ∷ []) refl e t) j nan
-
-row4-same : (v : Real4) (w : majoranaRow4.Real4) → ((j : ℕ) → j < 4 → row4 v j ≡ real4At w j) → row4 v ≡ real4At w
-row4-same v w e =
-    λ t j. getD (ext-getD nan (v .x0 ∷ v .x1 ∷ v .x2 ∷ v .x3 ∷ []) (w .x0 ∷ w .x1 ∷ w .x2 ∷ w .x3 ∷ []) refl e t) j nan
-
-map2-same : (q : Map2) (p : majorana2.Map2) → Same2 q p → entry2 q ≡ map2At p
-map2-same q p e = λ t i. row i t
-  where
-    row : (i : ℕ) → entry2 q i ≡ map2At p i
-    row zero = row2-same (q .r0) (p .r0) (λ j h. e 0 j (lit< tt) h)
-    row (suc i) = row2-same (q .r1) (p .r1) (λ j h. e 1 j (lit< tt) h)
-
-map4-same : (q : Map4) (p : majorana4.Map4) → Same4 q p → entry4 q ≡ map4At p
-map4-same q p e = λ t i. row i t
-  where
-    row : (i : ℕ) → entry4 q i ≡ map4At p i
-    row zero = row4-same (q .r0) (p .r0) (λ j h. e 0 j (lit< tt) h)
-    row (suc zero) = row4-same (q .r1) (p .r1) (λ j h. e 1 j (lit< tt) h)
-    row (suc (suc zero)) = row4-same (q .r2) (p .r2) (λ j h. e 2 j (lit< tt) h)
-    row (suc (suc (suc i))) = row4-same (q .r3) (p .r3) (λ j h. e 3 j (lit< tt) h)
-
 -- ---- operations
 
 module _ (n k : ℕ) (b b′ : ℕ → Bool) (t : State) where
-  pub one-holds : (q : Map2) (u : Mat2) (a : Mono2) → Has2 u a → Same2 q (majoranaMap1Of u .q) → k < n
-      → Holds n b t → b′ k ≡ flip (a .turn) (b k) → ((j : ℕ) → j ≢ k → b j ≡ b′ j) → Holds n b′ (effect (One k q) t)
+  pub one-holds : (u : Mat2) (a : Mono2) → Has2 u a → k < n → Holds n b t → b′ k ≡ flip (a .turn) (b k) → ((j : ℕ) → j ≢ k → b j ≡ b′ j)
+      → Holds n b′ (effect (One k (majoranaMap1Of u .q)) t)
   unfolding effect
-  one-holds q u a U e room H turned others =
-      subst (λ (f : Mat). Holds n b′ (step odd (modesAt k 1 f) t)) (sym (map2-same q (majoranaMap1Of u .q) e))
-      (step-holds n b t H odd k 1 (map2At (majoranaMap1Of u .q)) b′ (λ m M. single-state k (dimOf n) b b′ m M u a U (omega arith) turned elsewhere))
+  one-holds u a U room H turned others =
+      step-holds n b t H odd k 1 (entry2 (majoranaMap1Of u .q)) b′ (λ m M. single-state k (dimOf n) b b′ m M u a U (omega arith) turned elsewhere)
     where
       elsewhere : (j : ℕ) → (j < k) ⊎ (k + 1 ≤ j) → b j ≡ b′ j
       elsewhere j (inl h) = others j (λ i. omega arith)
       elsewhere j (inr h) = others j (λ i. omega arith)
 
-  pub two-holds : (q : Map4) (u : Mat4) (a : Mono4) → Has4 u a → Fits a → Same4 q (majoranaMap2Of u .q) → k + 1 < n
+  pub two-holds : (u : Mat4) (a : Mono4) → Has4 u a → Fits a → k + 1 < n
       → Holds n b t → b′ k ≡ bitA a (b k) (b (k + 1)) → b′ (k + 1) ≡ bitB a (b k) (b (k + 1))
-      → ((j : ℕ) → j ≢ k → j ≢ k + 1 → b j ≡ b′ j) → Holds n b′ (effect (Two k q) t)
+      → ((j : ℕ) → j ≢ k → j ≢ k + 1 → b j ≡ b′ j) → Holds n b′ (effect (Two k (majoranaMap2Of u .q)) t)
   unfolding effect
-  two-holds q u a U F e room H first second others =
-      subst (λ (f : Mat). Holds n b′ (step odd (modesAt k 2 f) t)) (sym (map4-same q (majoranaMap2Of u .q) e))
-      (step-holds n b t H odd k 2 (map4At (majoranaMap2Of u .q)) b′
-      (λ m M. fits-state k (dimOf n) b b′ m M u a U F (omega arith) first second elsewhere))
+  two-holds u a U F room H first second others =
+      step-holds n b t H odd k 2 (entry4 (majoranaMap2Of u .q)) b′
+      (λ m M. fits-state k (dimOf n) b b′ m M u a U F (omega arith) first second elsewhere)
     where
       elsewhere : (j : ℕ) → (j < k) ⊎ (k + 2 ≤ j) → b j ≡ b′ j
       elsewhere j (inl h) = others j (λ i. omega arith) (λ i. omega arith)
       elsewhere j (inr h) = others j (λ i. omega arith) (λ i. omega arith)
 
-pub rotation-holds : (n k : ℕ) (b : ℕ → Bool) (t : State) (q : Map2) (z : Complex) (l : Phase) → IsEntry z (unit l)
-    → Same2 q (rotationMapOf (unitOf z)) → k < n → Holds n b t → Holds n b (effect (One k q) t)
+pub rotation-holds : (n k : ℕ) (b : ℕ → Bool) (t : State) (z : Complex) (l : Phase) → IsEntry z (unit l) → k < n → Holds n b t
+    → Holds n b (effect (One k (rotationMapOf (unitOf z))) t)
 unfolding effect
-rotation-holds n k b t q z l Z e room H =
-    subst (λ (f : Mat). Holds n b (step odd (modesAt k 1 f) t)) (sym (map2-same q (rotationMapOf (unitOf z)) e))
-    (step-holds n b t H odd k 1 (map2At (rotationMapOf (unitOf z))) b (λ m M. rotation-state k (dimOf n) b b m M z l Z (omega arith)))
+rotation-holds n k b t z l Z room H =
+    step-holds n b t H odd k 1 (entry2 (rotationMapOf (unitOf z))) b (λ m M. rotation-state k (dimOf n) b b m M z l Z (omega arith))
 
 -- ---- what the queries read
 

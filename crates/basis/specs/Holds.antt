@@ -8,27 +8,15 @@ use lib.Dec.{T}
 use lib.Ieee.{binary64, fits}
 use Rattle.laws.specs.Zeros.{+1, sg}
 use Rattle.laws.specs.Matrix.{Mat}
-use Rattle.majorana.specs.declared.maps.Map2 as majorana2
-use Rattle.majorana.specs.declared.maps.Map4 as majorana4
-use Rattle.monomial.specs.Basis.{IsBasis, map2At, map4At}
+use Rattle.monomial.specs.Basis.{IsBasis}
 use Rattle.state.specs.Bounds.{maxQubits, dimOf}
 use Rattle.state.specs.State.{State}
-use Rattle.state.specs.Maps.{entry2, entry4}
 use Rattle.state.specs.Modes.{modeAt, isPermutation}
-use Rattle.state.specs.declared.maps.Map2.{Map2}
-use Rattle.state.specs.declared.maps.Map4.{Map4}
 
 -- t holds the basis state of the bits b on n modes. The two signs of a mode are the same, 1.0 or -1.0: they turn together or not at all
 pub record Holds (n : ℕ) (b : ℕ → Bool) (t : State) : Type 0 where
   pub matrix : IsBasis (dimOf n) b (t .m)
   pub signs : (k : ℕ) → k < n → (s : Bool) × (t .d (2 * k) ≡ sg s +1) × (t .d (2 * k + 1) ≡ sg s +1)
-
--- a map of the state is a map of the detector
-abbrev pub Same2 : Map2 → majorana2.Map2 → Type 0
-Same2 q p = (i j : ℕ) → i < 2 → j < 2 → entry2 q i j ≡ map2At p i j
-
-abbrev pub Same4 : Map4 → majorana4.Map4 → Type 0
-Same4 q p = (i j : ℕ) → i < 4 → j < 4 → entry4 q i j ≡ map4At p i j
 
 -- what the queries read: e is the covariance of the bits b, and the qubit q, whose mode the table gives, has the bit r q
 pub record Reads (n : ℕ) (b r : ℕ → Bool) (e : Mat) (modes : List ℕ) : Type 0 where

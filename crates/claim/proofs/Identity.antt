@@ -1,6 +1,6 @@
 -- The order of items whose matchgates stand on neighbouring wires: the identity covers every edge, so no path cover covers more, and each wire is its
--- own mode. What holds of all pairs holds of all edges, by induction on the lists. Assumes nothing.
-use mathlib.Core.Path.{_≡_, refl, sym, ap, ap₂, _∙_}
+-- own mode. Assumes nothing.
+use mathlib.Core.Path.{_≡_, refl, ap, ap₂, _∙_}
 use mathlib.Core.Logic.{inl, inr}
 use mathlib.Core.Bool.{Bool, true, false, cond, _&&_}
 use mathlib.Core.List.{List, [], _∷_}
@@ -9,60 +9,19 @@ use native.Mathlib.Nat.{le-refl}
 use native.Mathlib.Omega.{arith}
 use lib.Dec.{eqb, ltb}
 use borrow.Author.Tests.{eq-eqb, lt-ltb, le-ltb}
-use Rattle.laws.proofs.Views.{getD-listOf}
+use Rattle.laws.specs.Lists.{All}
+use Rattle.laws.proofs.Lists.{all-append}
 use Rattle.work.specs.Columns.{matchItem}
 use Rattle.order.specs.declared.edges.Edge.{Edge}
-use Rattle.order.specs.Weights.{Pair, pairOf, joinsOf, heavierOf, addOf, tallyOf, soonerOf, insertOf, heaviestOf, edgesOf, weighsOf}
+use Rattle.order.specs.Weights.{pairOf, edgesOf, weighsOf}
 use Rattle.order.specs.Cover.{wires}
 use Rattle.order.specs.Arrangement.{find, besideOf}
 use Rattle.order.specs.Choice.{coveredBy, coveredOf, identityOf, improvedOf, arrangeOf, chooseOrderOf}
-use Rattle.order.proofs.Permutation.{permutes}
+use Rattle.order.proofs.Permutation.{wire-mode}
+use Rattle.order.proofs.EdgeWires.{OnPair, OnEdge, pair-on, edges-all}
 use Rattle.resolve.specs.Items.{Item, one, two, opaque}
 use Rattle.detect.specs.Compile.{matchPairs}
-use Rattle.register.specs.Runs.{All}
 use Rattle.register.specs.Follows.{Beside, GaussianItem}
-use Rattle.register.proofs.Lists.{all-append}
-
--- ---- what holds of the wires of every pair holds of the wires of every edge
-
-module _ (P : ℕ → ℕ → Type 0) where
-  abbrev OnPair : Pair → Type 0
-  OnPair p = P (p .lo) (p .hi)
-
-  abbrev OnEdge : Edge → Type 0
-  OnEdge e = P (e .lo) (e .hi)
-
-  add-all : (p : Pair) (es : List Edge) → OnPair p → All OnEdge es → All OnEdge (addOf p es)
-  unfolding addOf
-  add-all p [] a h = (a, tt)
-  add-all p (e ∷ es) a h = by (joinsOf p e) (add-all p es a (h .1))
-    where
-      by : (t : Bool) → All OnEdge (addOf p es) → All OnEdge (cond t (heavierOf e ∷ es) (e ∷ addOf p es))
-      by true r = h
-      by false r = (h .0, r)
-
-  tally-all : (ps : List Pair) → All OnPair ps → All OnEdge (tallyOf ps)
-  unfolding tallyOf
-  tally-all [] h = tt
-  tally-all (p ∷ ps) h = add-all p (tallyOf ps) (h .0) (tally-all ps (h .1))
-
-  insert-all : (e : Edge) (es : List Edge) → OnEdge e → All OnEdge es → All OnEdge (insertOf e es)
-  unfolding insertOf
-  insert-all e [] a h = (a, tt)
-  insert-all e (f ∷ fs) a h = by (soonerOf e f) (insert-all e fs a (h .1))
-    where
-      by : (t : Bool) → All OnEdge (insertOf e fs) → All OnEdge (cond t (e ∷ f ∷ fs) (f ∷ insertOf e fs))
-      by true r = (a, h)
-      by false r = (h .0, r)
-
-  heaviest-all : (es : List Edge) → All OnEdge es → All OnEdge (heaviestOf es)
-  unfolding heaviestOf
-  heaviest-all [] h = tt
-  heaviest-all (e ∷ es) h = insert-all e (heaviestOf es) (h .0) (heaviest-all es (h .1))
-
-  edges-all : (ps : List Pair) → All OnPair ps → All OnEdge (edgesOf ps)
-  unfolding edgesOf
-  edges-all ps h = heaviest-all (tallyOf ps) (tally-all ps h)
 
 -- ---- neighbours
 
@@ -77,11 +36,6 @@ turned a b (inr e) = inl e
 -- where wires are their own modes, neighbouring wires have neighbouring modes
 pub beside-modes : (n : ℕ) (pos : ℕ → ℕ) → ((w : ℕ) → w < n → pos w ≡ w) → (a b : ℕ) → a < n → b < n → Beside a b → besideOf (pos a) (pos b) ≡ true
 beside-modes n pos own a b k l s = ap₂ besideOf (own a k) (own b l) ∙ neighbours a b s
-
--- in the identity a wire is its own mode
-pub wire-mode : (n w : ℕ) → w < n → find w (wires n) ≡ w
-unfolding wires
-wire-mode n w h = ap (λ (v : ℕ). find v (wires n)) (sym (getD-listOf n (λ v. v) w 0 h)) ∙ permutes n (wires n) (λ f. refl) .forth w h
 
 -- wires with neighbouring modes in the identity
 abbrev Near : ℕ → ℕ → ℕ → Type 0
@@ -110,11 +64,7 @@ identity-stays reorder n es h =
 -- ---- the pairs of the matchgates
 
 pair-near : (n a b : ℕ) → a < n → b < n → Beside a b → OnPair (Near n) (pairOf a b)
-pair-near n a b k l s = by (ltb b a)
-  where
-    by : (t : Bool) → OnPair (Near n) (cond t (record { lo = b; hi = a }) (record { lo = a; hi = b }))
-    by true = near n b a l k (turned a b s)
-    by false = near n a b k l s
+pair-near n a b k l s = pair-on (Near n) a b (near n a b k l s) (near n b a l k (turned a b s))
 
 pairs-near : (n : ℕ) (xs : List Item) → All (GaussianItem n) xs → All (OnPair (Near n)) (matchPairs xs)
 unfolding matchPairs

@@ -6,6 +6,7 @@ use mathlib.Core.List.{List, [], _∷_, _++_}
 use Prim.Native.Nat.{ℕ, _<_, _≤_}
 use lib.ListN.{length}
 use lib.Ieee.{Float}
+use Rattle.laws.specs.Lists.{All}
 use Rattle.gate.specs.declared.matrix.Mat4.{Mat4}
 use Rattle.majorana.specs.Diagonal.{interactionOf, unitOf}
 use Rattle.monomial.specs.Monomial.{Mono4, Has4}
@@ -19,7 +20,6 @@ use Rattle.state.specs.State.{State, vacuum}
 use Rattle.basis.specs.Holds.{Holds}
 use Rattle.basis.proofs.Steps.{vacuum-holds}
 use Rattle.evolve.specs.Evolve.{evolvedFrom}
-use Rattle.register.specs.Runs.{All}
 use Rattle.register.specs.Bits.{turn2, zeros}
 use Rattle.register.specs.Blocks.{KindIs, matchgate, phaseless, interacting, neither, ItemIs}
 use Rattle.register.proofs.Changes.{diagonal-still}

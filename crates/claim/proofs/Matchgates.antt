@@ -18,17 +18,16 @@ use Rattle.monomial.specs.Algebra.{renamed}
 use Rattle.monomial.proofs.Algebra.{renamed-has, renamed-fits}
 use Rattle.order.specs.Arrangement.{besideOf}
 use Rattle.detect.specs.Emit.{orientedOf, lowerOf}
-use Rattle.detect.specs.Operation.{one, two, placesOf}
+use Rattle.detect.specs.Operation.{one, two}
 use Rattle.state.specs.Bounds.{maxQubits}
 use Rattle.state.specs.State.{State}
-use Rattle.state.specs.Operation.{map2Of, map4Of}
 use Rattle.basis.specs.Holds.{Holds}
 use Rattle.basis.proofs.Steps.{one-holds, two-holds}
 use Rattle.evolve.specs.Evolve.{evolvedFrom}
 use Rattle.register.specs.Bits.{turnedOf, firstOf, secondOf, turn1, turn2}
 use Rattle.register.proofs.Readings.{turned-is, first-is, second-is}
 use Rattle.register.proofs.Changes.{two-renamed}
-use Rattle.claim.proofs.Operations.{places-one, places-two, one-applied, two-applied}
+use Rattle.claim.proofs.Operations.{one-applied, two-applied}
 
 -- ---- neighbours
 
@@ -49,9 +48,8 @@ module _ (n : ℕ) (few : n ≤ maxQubits) (b : ℕ → Bool) (t : State) (h : H
   pub turn-holds : (k : ℕ) (u : Mat2) (a : Mono2) → Has2 u a → k < n
       → Holds n (turn1 k u b) (evolvedFrom n (one k (majoranaMap1Of u .q) ∷ []) t)
   turn-holds k u a U l =
-      let q = majoranaMap1Of u .q in
-      subst (Holds n (turn1 k u b)) (sym (one-applied n few t k q l))
-      (one-holds n k b (turn1 k u b) t (map2Of (placesOf (one k q))) u a U (places-one k q) l h
+      subst (Holds n (turn1 k u b)) (sym (one-applied n few t k (majoranaMap1Of u .q) l))
+      (one-holds n k b (turn1 k u b) t u a U l h
       (update-here k (turnedOf u (b k)) b ∙ turned-is u a U (b k)) (λ j e. sym (update-away k (turnedOf u (b k)) b j e)))
 
   -- ---- two modes, the lower first
@@ -59,12 +57,11 @@ module _ (n : ℕ) (few : n ≤ maxQubits) (b : ℕ → Bool) (t : State) (h : H
   pair-holds : (k : ℕ) (u : Mat4) (a : Mono4) → Has4 u a → Fits a → k + 1 < n
       → Holds n (turn2 k (k + 1) u b) (evolvedFrom n (two k (majoranaMap2Of u .q) ∷ []) t)
   pair-holds k u a U F l =
-      let q = majoranaMap2Of u .q in
       let x = firstOf u (b k) (b (k + 1)) in
       let y = secondOf u (b k) (b (k + 1)) in
       let ne : k ≢ k + 1 = λ e. omega arith in
-      subst (Holds n (turn2 k (k + 1) u b)) (sym (two-applied n few t k q l))
-      (two-holds n k b (turn2 k (k + 1) u b) t (map4Of (placesOf (two k q))) u a U F (places-two k q) l h
+      subst (Holds n (turn2 k (k + 1) u b)) (sym (two-applied n few t k (majoranaMap2Of u .q) l))
+      (two-holds n k b (turn2 k (k + 1) u b) t u a U F l h
       (two-first k (k + 1) x y b ne ∙ first-is u a U (b k) (b (k + 1)))
       (two-second k (k + 1) x y b ne ∙ second-is u a U (b k) (b (k + 1)))
       (λ j e g. sym (two-away k (k + 1) x y b ne j e g)))

@@ -6,10 +6,9 @@ use mathlib.Core.List.{List, [], _∷_}
 use Prim.Native.Nat.{ℕ, _<_}
 use lib.Dec.{eqb}
 use borrow.Author.Tests.{eq-eqb, ne-eqb}
+use Rattle.laws.specs.Lists.{All}
 use Rattle.laws.proofs.Cases.{eq-or-ne}
-use Rattle.resolve.specs.Items.{Item, one, two, opaque}
-use Rattle.detect.specs.Records.{ItemBelow}
-use Rattle.register.specs.Runs.{All}
+use Rattle.resolve.specs.Items.{Item, one, two, opaque, ItemBelow}
 use Rattle.register.specs.Bits.{turnedOf, firstOf, secondOf, itemBits, itemsRun}
 use Rattle.claim.specs.Modes.{modeBits, modesRun}
 

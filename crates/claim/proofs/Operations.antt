@@ -1,16 +1,15 @@
 -- A program's operations as `apply` decodes them, one at a time and in lists, on states that hold bits. Assumes nothing.
 use mathlib.Core.Path.{_≡_, refl, ap}
 use mathlib.Core.List.{List, [], _∷_, _++_}
-use Prim.Native.Nat.{ℕ, zero, suc, _+_, _<_, _≤_}
+use Prim.Native.Nat.{ℕ, _+_, _<_, _≤_}
+use Rattle.real.specs.declared.maps.Map2.{Map2}
+use Rattle.real.specs.declared.maps.Map4.{Map4}
 use Rattle.gate.specs.declared.complex.Complex.{Complex}
-use Rattle.majorana.specs.declared.maps.Map2.{Map2}
-use Rattle.majorana.specs.declared.maps.Map4.{Map4}
 use Rattle.detect.specs.Operation.{Operation, one, two, interaction, placesOf}
 use Rattle.state.specs.Bounds.{maxQubits}
 use Rattle.state.specs.State.{State}
-use Rattle.state.specs.Operation.{effect, decodeOf, map2Of, map4Of}
+use Rattle.state.specs.Operation.{effect, decodeOf}
 use Rattle.state.specs.declared.operation.Operation.the-variants.{One, Two}
-use Rattle.basis.specs.Holds.{Same2, Same4}
 use Rattle.evolve.specs.Evolve.{decodedEffect, evolvedFrom}
 use Rattle.evolve.proofs.Decoding.{decode-one, decode-two, decode-interaction}
 
@@ -21,28 +20,14 @@ unfolding evolvedFrom
 evolved-append n [] ps t = refl
 evolved-append n (o ∷ os) ps t = evolved-append n os ps (decodedEffect (decodeOf n (placesOf o)) t)
 
--- ---- the places of a map hold its entries
-
-pub places-one : (k : ℕ) (q : Map2) → Same2 (map2Of (placesOf (one k q))) q
-unfolding placesOf
-places-one k q zero j _ _ = refl
-places-one k q (suc i) j _ _ = refl
-
-pub places-two : (k : ℕ) (q : Map4) → Same4 (map4Of (placesOf (two k q))) q
-unfolding placesOf
-places-two k q zero j _ _ = refl
-places-two k q (suc zero) j _ _ = refl
-places-two k q (suc (suc zero)) j _ _ = refl
-places-two k q (suc (suc (suc i))) j _ _ = refl
-
 -- ---- what is applied
 
 module _ (n : ℕ) (few : n ≤ maxQubits) (t : State) where
-  pub one-applied : (k : ℕ) (q : Map2) → k < n → evolvedFrom n (one k q ∷ []) t ≡ effect (One k (map2Of (placesOf (one k q)))) t
+  pub one-applied : (k : ℕ) (q : Map2) → k < n → evolvedFrom n (one k q ∷ []) t ≡ effect (One k q) t
   unfolding evolvedFrom decodedEffect
   one-applied k q l = ap (λ d. decodedEffect d t) (decode-one n k q l few)
 
-  pub two-applied : (k : ℕ) (q : Map4) → k + 1 < n → evolvedFrom n (two k q ∷ []) t ≡ effect (Two k (map4Of (placesOf (two k q)))) t
+  pub two-applied : (k : ℕ) (q : Map4) → k + 1 < n → evolvedFrom n (two k q ∷ []) t ≡ effect (Two k q) t
   unfolding evolvedFrom decodedEffect
   two-applied k q l = ap (λ d. decodedEffect d t) (decode-two n k q l few)
 

@@ -7,6 +7,7 @@ use mathlib.Core.List.{List, [], _∷_, List·Memᴰ}
 use Prim.Native.Nat.{ℕ, _+_, _<_}
 use lib.ListN.{getD}
 use lib.Ieee.{Float, le}
+use Rattle.laws.specs.Lists.{All}
 use Rattle.gate.specs.Complex.{f0}
 use Rattle.gate.specs.declared.matrix.Mat2.{Mat2}
 use Rattle.gate.specs.declared.matrix.Mat4.{Mat4}
@@ -20,17 +21,17 @@ use Rattle.monomial.proofs.Complexes.{zero-is}
 use Rattle.monomial.proofs.Tolerances.{zero-passes}
 use Rattle.monomial.proofs.Single.{residual-single}
 use Rattle.order.specs.Arrangement.{find, besideOf}
+use Rattle.order.proofs.Permutation.{wire-mode}
 use Rattle.resolve.specs.Items.{Item, one, two, opaque}
 use Rattle.detect.specs.declared.count.Counts.{Counts}
 use Rattle.detect.specs.Emit.{orientedOf}
 use Rattle.detect.specs.Counts.{apart, oneShare, adjacentShare, matchShare, twoShare, plusOf, shareOf, countedOnto, countsOf}
 use Rattle.detect.specs.Compile.{relabelsOf, reordersOf, labelsOf, itemsOf, orderOf, modeOf, modeOfQubit, tallyOf}
 use Rattle.register.specs.Register.{RegisterTape}
-use Rattle.register.specs.Runs.{All}
 use Rattle.register.specs.Blocks.{Turn}
 use Rattle.register.specs.Follows.{Beside, PlainGate, GaussianItem, Plain}
 use Rattle.register.proofs.Tapes.{tolerance, tape-plain}
-use Rattle.claim.proofs.Identity.{beside-modes, wire-mode, plain-order}
+use Rattle.claim.proofs.Identity.{beside-modes, plain-order}
 
 -- ---- counts
 

@@ -15,14 +15,13 @@ use Rattle.monomial.proofs.Tests.{eqPhase}
 use Rattle.monomial.proofs.Diagonals.{diagonal, phase-a, phase-b}
 use Rattle.monomial.proofs.Rotations.{rotation-is}
 use Rattle.detect.specs.Emit.{rotated, rotationsOf}
-use Rattle.detect.specs.Operation.{one, interaction, placesOf}
+use Rattle.detect.specs.Operation.{interaction}
 use Rattle.state.specs.Bounds.{maxQubits}
 use Rattle.state.specs.State.{State}
-use Rattle.state.specs.Operation.{map2Of}
 use Rattle.basis.specs.Holds.{Holds}
 use Rattle.basis.proofs.Steps.{rotation-holds}
 use Rattle.evolve.specs.Evolve.{evolvedFrom}
-use Rattle.claim.proofs.Operations.{evolved-append, places-one, one-applied, interaction-applied}
+use Rattle.claim.proofs.Operations.{evolved-append, one-applied, interaction-applied}
 
 -- ---- the phases of a diagonal block
 
@@ -58,7 +57,7 @@ module _ (n : ℕ) (few : n ≤ maxQubits) (b : ℕ → Bool) where
       by : (s : Bool) → Holds n b (evolvedFrom n (rotated k (cond s (By (rotationMapOf (unitOf z))) Nothing)) t)
       by true =
           subst (Holds n b) (sym (one-applied n few t k (rotationMapOf (unitOf z)) lk))
-          (rotation-holds n k b t (map2Of (placesOf (one k (rotationMapOf (unitOf z))))) z l e (places-one k (rotationMapOf (unitOf z))) lk h)
+          (rotation-holds n k b t z l e lk h)
       by false = h
 
   module _ (i j : ℕ) (li : i < n) (lj : j < n) (v : Mat4) (p : Phased v) (t : State) (h : Holds n b t) where

@@ -5,6 +5,7 @@ use mathlib.Core.List.{List, [], _∷_}
 use Prim.Native.Nat.{ℕ, _+_}
 use native.Mathlib.Omega.{arith}
 use lib.Ieee.{Float}
+use Rattle.laws.specs.Lists.{All}
 use Rattle.gate.specs.declared.matrix.Mat4.{Mat4}
 use Rattle.majorana.specs.Majorana.{majoranaMap2Of}
 use Rattle.order.specs.Arrangement.{besideOf}
@@ -12,7 +13,6 @@ use Rattle.work.specs.Columns.{matchItem, neitherItem}
 use Rattle.resolve.specs.Items.{Item}
 use Rattle.detect.specs.Emit.{orientedOf}
 use Rattle.detect.specs.Counts.{apart, adjacentShare, matchShare, twoShare, plusOf, shareOf, countedOnto, countsOf}
-use Rattle.register.specs.Runs.{All}
 
 -- the item's share has nothing bad
 abbrev pub Free : Float → (ℕ → ℕ) → Item → Type 0

@@ -6,13 +6,13 @@ use mathlib.Core.List.{List, []}
 use Prim.Native.Nat.{ℕ, _<_, _≤_}
 use lib.ListN.{getD}
 use borrow.Author.Tests.{eqb-true}
+use Rattle.laws.proofs.Lists.{all-map}
 use Rattle.tape.specs.Bounds.{maxQubits}
 use Rattle.tape.specs.Parse.{Content, accepted, parse}
 use Rattle.tape.specs.declared.header.Header.{Header}
 use Rattle.tape.specs.declared.gates.Gate.{Gate}
 use Rattle.order.proofs.Permutation.{order-permutes}
-use Rattle.resolve.specs.Items.{Item, one, two, opaque}
-use Rattle.detect.specs.Records.{ItemBelow}
+use Rattle.resolve.specs.Items.{Item, one, two, opaque, ItemBelow}
 use Rattle.detect.specs.Report.{freeOf}
 use Rattle.detect.specs.Emit.{operationsOf}
 use Rattle.detect.specs.Compile.{relabelsOf, reordersOf, matchPairs, labelsOf, itemsOf, orderOf, modeOf, modeOfQubit, tallyOf, programOf}
@@ -23,7 +23,6 @@ use Rattle.register.specs.Register.{RegisterTape, registerBits}
 use Rattle.register.specs.Bits.{zeros}
 use Rattle.register.specs.Blocks.{EvenSum, ItemIs}
 use Rattle.register.specs.Follows.{Follows, anyPair}
-use Rattle.register.proofs.Lists.{all-map}
 use Rattle.register.proofs.Tapes.{tape-follows}
 use Rattle.claim.specs.Modes.{modesRun}
 use Rattle.claim.proofs.Modes.{Apart, items-agree}

@@ -14,6 +14,8 @@ use borrow.Author.Tests.{eq-eqb, ne-eqb}
 use Rattle.laws.specs.Views.{upFrom, listOf, downTo}
 use Rattle.laws.proofs.Cases.{eq-or-ne}
 use Rattle.laws.proofs.Views.{up-join, getD-listOf}
+use Rattle.laws.specs.Lists.{All}
+use Rattle.laws.proofs.Lists.{all-append}
 use Rattle.work.specs.Marks.{markAt, Only, column}
 use Rattle.work.specs.Columns.{kindColumn, aColumn, bColumn, labColumn, contentColumn, orderColumn, posColumn, startColumn, matchItem}
 use Rattle.tape.specs.Good.{GoodGate}
@@ -35,12 +37,12 @@ use Rattle.order.specs.Slice.{columns, Arranges}
 use Rattle.order.proofs.Permutation.{order-permutes}
 use Rattle.resolve.specs.declared.settle.Tally.{Tally}
 use Rattle.resolve.specs.Items as Items
-use Rattle.resolve.specs.Items.{Item, newestFirst}
+use Rattle.resolve.specs.Items.{Item, newestFirst, ItemsBelow}
 use Rattle.resolve.specs.Slots.{itemAt, residualAt}
 use Rattle.resolve.specs.Whole.{Fused, fuseOf, fusedAt, Whole}
 use Rattle.detect.specs.Counts.{countsOf}
 use Rattle.detect.specs.Report.{table}
-use Rattle.detect.specs.Records.{isItemOf, recordItem, itemsIn, modesIn, qubitMode, ColumnBelow, ItemsBelow, Held}
+use Rattle.detect.specs.Records.{isItemOf, recordItem, itemsIn, modesIn, qubitMode, ColumnBelow, Held}
 use Rattle.detect.specs.Compile.{relabelsOf, reordersOf, matchPairs, labelsOf, itemsOf, orderOf, modeOf, modeOfQubit, tallyOf}
 use Rattle.detect.proofs.Items.{items-more, items-same, items-none, below-at, wires-below}
 use Rattle.detect.proofs.Emitting.{counts-same}
@@ -114,8 +116,7 @@ items-stay p xs us vs a b c o (suc m) =
 -- ---- path starts are 0 or 1
 
 abbrev Small : List ℕ → Type 0
-Small [] = Unit {0}
-Small (x ∷ l) = (x ≤ 1) × Small l
+Small = All (λ x. x ≤ 1)
 
 small-at : (l : List ℕ) (k : ℕ) → Small l → getD l k 0 ≤ 1
 small-at [] k h = omega arith
@@ -131,14 +132,10 @@ marked-small : (l : List ℕ) → Small (marked l)
 marked-small [] = tt
 marked-small (x ∷ l) = (omega arith, zeros-small l)
 
-join-small : (a b : List ℕ) → Small a → Small b → Small (a ++ b)
-join-small [] b h g = g
-join-small (x ∷ a) b h g = (h .0, join-small a b (h .1) g)
-
 marks-small : (ps : List (List ℕ)) → Small (marks ps)
 unfolding marks
 marks-small [] = tt
-marks-small (p ∷ ps) = join-small (marked p) (marks ps) (marked-small p) (marks-small ps)
+marks-small (p ∷ ps) = all-append (λ x. x ≤ 1) (marked p) (marks ps) (marked-small p) (marks-small ps)
 
 pub starts-small : (r : Bool) (n : ℕ) (ps : List Pair) (k : ℕ) → getD (chooseOrderOf r n ps .starts) k 0 ≤ 1
 unfolding chooseOrderOf arrangeOf pathOrderOf

@@ -12,6 +12,7 @@ use lib.Seq.{paste}
 use lib.Ieee.{Float, le}
 use borrow.Author.Tests.{ne-eqb}
 use Rattle.laws.proofs.Cases.{eq-or-ne}
+use Rattle.real.specs.declared.maps.Map2.{Map2}
 use Rattle.gate.specs.Complex.{f0}
 use Rattle.gate.specs.declared.matrix.Mat4.{Mat4}
 use Rattle.work.specs.Marks.{markAt}
@@ -21,15 +22,14 @@ use Rattle.majorana.specs.Majorana.{majoranaMap1Of, majoranaMap2Of}
 use Rattle.majorana.specs.Numbers.{commutesJ2Of}
 use Rattle.majorana.specs.declared.diagonal.Rotation.{Rotation}
 use Rattle.majorana.specs.declared.diagonal.Rotation.the-variants.{By, Nothing}
-use Rattle.majorana.specs.declared.maps.Map2.{Map2}
 use Rattle.majorana.specs.declared.maps.Mapped2.{Mapped2}
 use Rattle.order.specs.Arrangement.{besideOf}
 use Rattle.resolve.specs.Items as Items
-use Rattle.resolve.specs.Items.{Item}
+use Rattle.resolve.specs.Items.{Item, ItemBelow, ItemsBelow}
 use Rattle.detect.specs.Operation.{Operation, one, two, interaction, onePlaces, placesOf, allPlaces, Put}
 use Rattle.detect.specs.Emit.{orientedOf, lowerOf, rotated, rotationsOf, twoOperations, itemOperations, operationsOf}
 use Rattle.detect.specs.Counts.{gaussian, interacting, bad, apart, oneShare, adjacentShare, matchShare, turned, turnsIn, twoShare, plusOf, shareOf, countedOnto, countsOf}
-use Rattle.detect.specs.Records.{isItemOf, recordItem, itemsIn, modesIn, ItemBelow, ItemsBelow}
+use Rattle.detect.specs.Records.{isItemOf, recordItem, itemsIn, modesIn}
 use Rattle.detect.proofs.Items.{items-more, items-same, items-none}
 use Rattle.detect.proofs.Placing.{all-append, one-long, put-none, put-one, put-length, put-both}
 
@@ -133,7 +133,7 @@ module _ (n : ℕ) (pos pos′ : ℕ → ℕ) (same : (w : ℕ) → w < n → po
   item-same block Items.opaque h = refl
 
   pub operations-same : (l : List Item) → ItemsBelow n l → operationsOf pos l ≡ operationsOf pos′ l
-  unfolding operationsOf ItemsBelow
+  unfolding operationsOf
   operations-same [] h = refl
   operations-same (x ∷ l) h = ap₂ _++_ (operations-same l (h .1)) (item-same (length l) x (h .0))
 
@@ -143,7 +143,7 @@ module _ (n : ℕ) (pos pos′ : ℕ → ℕ) (same : (w : ℕ) → w < n → po
   share-same tol Items.opaque h = refl
 
   pub counts-same : (tol : Float) (l : List Item) → ItemsBelow n l → countsOf tol pos l ≡ countsOf tol pos′ l
-  unfolding countedOnto ItemsBelow
+  unfolding countedOnto
   counts-same tol [] h = refl
   counts-same tol (x ∷ l) h = ap₂ plusOf (counts-same tol l (h .1)) (share-same tol x (h .0))
 

@@ -16,9 +16,9 @@ use Rattle.work.specs.Marks.{markAt}
 use Rattle.work.specs.Columns.{kindColumn, aColumn, bColumn}
 use Rattle.fuse.specs.Layout.{matrix2Of, matrix4Of}
 use Rattle.resolve.specs.Items as Items
-use Rattle.resolve.specs.Items.{Item, newestFirst}
+use Rattle.resolve.specs.Items.{Item, newestFirst, ItemBelow, ItemsBelow}
 use Rattle.resolve.specs.Slots.{item, itemAt, residualAt}
-use Rattle.detect.specs.Records.{isItemOf, itemBy, recordItem, itemsIn, ItemBelow, ItemsBelow}
+use Rattle.detect.specs.Records.{isItemOf, itemBy, recordItem, itemsIn}
 
 -- ---- by kind
 
@@ -80,7 +80,7 @@ module _ (xs : List Float) (us : List ℕ) where
   -- ---- wires
 
   pub below-at : (n m i : ℕ) → ItemsBelow n (itemsIn xs us m) → i < m → isItemOf (markAt us i kindColumn) ≡ true → ItemBelow n (recordItem xs us i)
-  unfolding newestFirst ItemsBelow
+  unfolding newestFirst
   below-at n zero i b h e = absurd (omega arith)
   below-at n (suc m) i b h e = go (isItemOf (markAt us m kindColumn)) refl (eq-or-ne i m) (rw (record-items m) at b) (λ s l. below-at n m i s l e)
     where

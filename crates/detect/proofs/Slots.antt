@@ -1,12 +1,12 @@
 -- Of an accepted tape, every slot of the events is below n: relabelling, fusing and `compress` make no other. And the slots of the qubits are a permutation.
 -- Assumes nothing.
-use mathlib.Core.Path.{_≡_, refl, sym, ap, _∙_}
+use mathlib.Core.Path.{refl}
 use mathlib.Core.Bool.{Bool, true, false, cond, _&&_, _||_}
-use mathlib.Core.List.{List, [], _∷_, _++_, map, reverse, reverse-cons, List·Memᴰ, List·Memᴰ·head, List·Memᴰ·tail}
+use mathlib.Core.List.{List, [], _∷_, _++_, map, reverse, List·Memᴰ, List·Memᴰ·head, List·Memᴰ·tail}
 use Prim.Native.Nat.{ℕ, _<_}
 use lib.Dec.{eqb}
-use lib.ListN.{getD}
 use Rattle.laws.specs.Views.{until, from}
+use Rattle.laws.proofs.Lists.{all-append, all-onto, until-all, from-all}
 use Rattle.gate.specs.Matrix.{mul2Of, mat4SwapQubitsOf}
 use Rattle.gate.specs.declared.matrix.Mat2.{Mat2}
 use Rattle.gate.specs.declared.matrix.Mat4.{Mat4}
@@ -15,55 +15,15 @@ use Rattle.tape.specs.declared.gates.Gate.{Gate}
 use Rattle.tape.specs.declared.gates.Gate.the-variants.{One, Two, Three}
 use Rattle.fuse.specs.Events.{Event, gone, one, two, three, meets, touches, clear, oneOn}
 use Rattle.fuse.specs.Relabel.{Labelled, label, labelled, unlabelled, swapCode, put, swapped, slotOf}
-use Rattle.fuse.specs.Fuse.{grown, joined, place, fuseStep, fused}
-use Rattle.fuse.specs.Compress.{press, compressStep, compressed, diagonal2Of}
-use Rattle.resolve.proofs.Wires.{SlotsBelow, Permutation, identity-permutation, traded-permutation}
+use Rattle.fuse.specs.Fuse.{grown, joined, place, fused}
+use Rattle.fuse.specs.Compress.{press, compressed, diagonal2Of}
+use Rattle.resolve.proofs.Wires.{EventBelow, EventsBelow, Permutation, identity-permutation, traded-permutation}
 
 -- ---- events on slots below n
 
-abbrev pub EventBelow : ℕ → Event → Type 0
-EventBelow n gone = Unit {0}
-EventBelow n (one w m) = w < n
-EventBelow n (two a b u) = (a < n) × (b < n)
-EventBelow n (three a b c) = (a < n) × (b < n) × (c < n)
-
-abbrev pub EventsBelow : ℕ → List Event → Type 0
-EventsBelow n [] = Unit {0}
-EventsBelow n (e ∷ es) = EventBelow n e × EventsBelow n es
-
 module _ (n : ℕ) where
-  pub slots-below : (es : List Event) → EventsBelow n es → SlotsBelow n es
-  slots-below [] h = tt
-  slots-below (gone ∷ es) h = slots-below es (h .1)
-  slots-below (one w m ∷ es) h = (h .0, slots-below es (h .1))
-  slots-below (two a b u ∷ es) h = (h .0 .0, h .0 .1, slots-below es (h .1))
-  slots-below (three a b c ∷ es) h = (h .0 .0, h .0 .1, h .0 .2, slots-below es (h .1))
-
-  join-below : (a b : List Event) → EventsBelow n a → EventsBelow n b → EventsBelow n (a ++ b)
-  join-below [] b h g = g
-  join-below (x ∷ a) b h g = (h .0, join-below a b (h .1) g)
-
   pub reverse-below : (es : List Event) → EventsBelow n es → EventsBelow n (reverse es)
-  reverse-below [] h = tt
-  reverse-below (e ∷ es) h = rw (reverse-cons e es) (join-below (reverse es) (e ∷ []) (reverse-below es (h .1)) (h .0, tt))
-
-  until-below : (p : Event → Bool) (es : List Event) → EventsBelow n es → EventsBelow n (until p es)
-  unfolding until
-  until-below p [] h = tt
-  until-below p (e ∷ es) h = go (p e) (until-below p es (h .1))
-    where
-      go : (t : Bool) → EventsBelow n (until p es) → EventsBelow n (cond t [] (e ∷ until p es))
-      go true r = tt
-      go false r = (h .0, r)
-
-  from-below : (p : Event → Bool) (es : List Event) → EventsBelow n es → EventsBelow n (from p es)
-  unfolding from
-  from-below p [] h = tt
-  from-below p (e ∷ es) h = go (p e) (from-below p es (h .1))
-    where
-      go : (t : Bool) → EventsBelow n (from p es) → EventsBelow n (cond t (e ∷ es) (from p es))
-      go true r = h
-      go false r = r
+  reverse-below es h = all-onto (EventBelow n) es [] h tt
 
   clear-below : (a b : ℕ) (es : List Event) → EventsBelow n es → EventsBelow n (map (clear a b) es)
   clear-below a b [] h = tt
@@ -77,7 +37,7 @@ module _ (n : ℕ) where
 
   joined-below : (c d : ℕ) (m u : Mat4) (new old : List Event) → c < n → d < n → EventsBelow n new → EventsBelow n old → EventsBelow n (joined c d m u new old)
   joined-below c d m u new old hc hd h g =
-      (tt, join-below (map (clear c d) new) (two c d (grown c d m u new) ∷ old) (clear-below c d new h) ((hc, hd), g))
+      (tt, all-append (EventBelow n) (map (clear c d) new) (two c d (grown c d m u new) ∷ old) (clear-below c d new h) ((hc, hd), g))
 
   place-below : (a b : ℕ) (m : Mat4) (new old all : List Event) → a < n → b < n → EventsBelow n new → EventsBelow n old → EventsBelow n all → EventsBelow n (place a b m new old all)
   place-below a b m new [] all ha hb h g r = ((ha, hb), r)
@@ -99,7 +59,7 @@ module _ (n : ℕ) where
   fused-below (two a b m ∷ es) h =
       let r = fused-below es (h .1) in
       place-below a b m (until (meets a b) (fused es)) (from (meets a b) (fused es)) (fused es) (h .0 .0) (h .0 .1)
-      (until-below (meets a b) (fused es) r) (from-below (meets a b) (fused es) r) r
+      (until-all (meets a b) (EventBelow n) (fused es) r) (from-all (meets a b) (EventBelow n) (fused es) r) r
   fused-below (three a b c ∷ es) h = (h .0, fused-below es (h .1))
 
   -- ---- runs
@@ -110,7 +70,7 @@ module _ (n : ℕ) where
   press-below w m new (one v k ∷ old) all hw h g r = go (diagonal2Of k && diagonal2Of m)
     where
       go : (t : Bool) → EventsBelow n (cond t (gone ∷ (new ++ (one v (mul2Of m k) ∷ old))) (one w m ∷ all))
-      go true = (tt, join-below new (one v (mul2Of m k) ∷ old) h g)
+      go true = (tt, all-append (EventBelow n) new (one v (mul2Of m k) ∷ old) h g)
       go false = (hw, r)
   press-below w m new (two a b u ∷ old) all hw h g r = (hw, r)
   press-below w m new (three a b c ∷ old) all hw h g r = (hw, r)
@@ -121,7 +81,8 @@ module _ (n : ℕ) where
   compressed-below (gone ∷ es) h = (tt, compressed-below es (h .1))
   compressed-below (one w m ∷ es) h =
       let r = compressed-below es (h .1) in
-      press-below w m (until (touches w) (compressed es)) (from (touches w) (compressed es)) (compressed es) (h .0) (until-below (touches w) (compressed es) r) (from-below (touches w) (compressed es) r) r
+      press-below w m (until (touches w) (compressed es)) (from (touches w) (compressed es)) (compressed es) (h .0)
+      (until-all (touches w) (EventBelow n) (compressed es) r) (from-all (touches w) (EventBelow n) (compressed es) r) r
   compressed-below (two a b m ∷ es) h = (h .0, compressed-below es (h .1))
   compressed-below (three a b c ∷ es) h = (h .0, compressed-below es (h .1))
 

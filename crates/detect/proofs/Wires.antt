@@ -1,32 +1,22 @@
 -- Of an accepted tape: the items' wires are below n, content and slots are permutations, and so is the table of modes. Assumes nothing.
-use mathlib.Core.Path.{_≡_, refl, sym, ap, _∙_}
-use mathlib.Core.List.{List, [], _∷_, _++_, reverse, List·Memᴰ}
-use Prim.Native.Nat.{ℕ, _+_, _≤_, _<_}
+use mathlib.Core.Path.{_≡_, sym, ap, _∙_}
+use mathlib.Core.List.{List, reverse, List·Memᴰ}
+use Prim.Native.Nat.{ℕ, _<_}
 use native.Mathlib.Omega.{arith}
-use lib.ListN.{length, getD}
+use lib.ListN.{getD}
 use Rattle.tape.specs.Good.{GoodGate}
 use Rattle.tape.specs.declared.header.Header.{Header}
 use Rattle.tape.specs.declared.gates.Gate.{Gate}
-use Rattle.fuse.specs.Relabel.{labelled, unlabelled}
+use Rattle.fuse.specs.Relabel.{unlabelled}
 use Rattle.fuse.specs.Fuse.{fused}
 use Rattle.fuse.specs.Compress.{compressed}
-use Rattle.order.specs.Arrangement.{find}
 use Rattle.order.proofs.Permutation.{order-permutes}
-use Rattle.resolve.specs.Items as Items
-use Rattle.resolve.specs.Items.{Item}
+use Rattle.resolve.specs.Items.{ItemsBelow}
 use Rattle.resolve.specs.Resolve.{startOf}
 use Rattle.resolve.specs.Whole.{resolvedOf, fuseOf}
-use Rattle.resolve.proofs.Wires.{WiresBelow, Permutation, Wired, resolved-wired, rests-wired, start-wired}
-use Rattle.detect.specs.Records.{ItemsBelow}
-use Rattle.detect.specs.Compile.{relabelsOf, reordersOf, matchPairs, labelsOf, itemsOf, orderOf, modeOf, modeOfQubit}
-use Rattle.detect.proofs.Slots.{LabelsBelow, slots-below, reverse-below, fused-below, compressed-below, labelled-below, unlabelled-below}
-
-items-below : (n : ℕ) (l : List Item) → WiresBelow n l → ItemsBelow n l
-unfolding ItemsBelow
-items-below n [] h = tt
-items-below n (Items.one w m ∷ l) h = (h .0, items-below n l (h .1))
-items-below n (Items.two k a b r v ∷ l) h = ((h .0, h .1), items-below n l (h .2))
-items-below n (Items.opaque ∷ l) h = (tt, items-below n l h)
+use Rattle.resolve.proofs.Wires.{Permutation, Wired, resolved-wired, rests-wired, start-wired}
+use Rattle.detect.specs.Compile.{relabelsOf, reordersOf, matchPairs, labelsOf, itemsOf, orderOf, modeOfQubit}
+use Rattle.detect.proofs.Slots.{LabelsBelow, reverse-below, fused-below, compressed-below, labelled-below, unlabelled-below}
 
 module _ (h : Header) (gs : List Gate) (good : (x : Gate) → List·Memᴰ x gs → GoodGate (h .n) x) where
   labels : LabelsBelow (h .n) (labelsOf h gs)
@@ -41,7 +31,7 @@ module _ (h : Header) (gs : List Gate) (good : (x : Gate) → List·Memᴰ x gs 
   wired =
       let es = labelsOf h gs .events in
       let below = reverse-below (h .n) (compressed (fused es)) (compressed-below (h .n) (fused es) (fused-below (h .n) es (labels .events))) in
-      resolved-wired (relabelsOf h) (h .tolerance) (h .n) (reverse (compressed (fused es))) (startOf (h .n) (labelsOf h gs .swaps)) (slots-below (h .n) (reverse (compressed (fused es))) below)
+      resolved-wired (relabelsOf h) (h .tolerance) (h .n) (reverse (compressed (fused es))) (startOf (h .n) (labelsOf h gs .swaps)) below
       (start-wired (relabelsOf h) (h .tolerance) (h .n) (labelsOf h gs .swaps))
 
   pub content-permutes : Permutation (h .n) (itemsOf h gs .content)
@@ -51,8 +41,8 @@ module _ (h : Header) (gs : List Gate) (good : (x : Gate) → List·Memᴰ x gs 
   pub wires-items : ItemsBelow (h .n) (itemsOf h gs .items)
   unfolding itemsOf fuseOf
   wires-items =
-      items-below (h .n) (itemsOf h gs .items)
-      (rests-wired (relabelsOf h) (h .tolerance) (h .n) (resolvedOf (relabelsOf h) (h .tolerance) (h .n) (labelsOf h gs .swaps) (labelsOf h gs .events)) (h .n) (omega arith) wired)
+      rests-wired (relabelsOf h) (h .tolerance) (h .n)
+      (resolvedOf (relabelsOf h) (h .tolerance) (h .n) (labelsOf h gs .swaps) (labelsOf h gs .events)) (h .n) (omega arith) wired
 
   -- ---- "the mode table's first n a permutation"
 

@@ -1,7 +1,7 @@
 -- The items in the lent work as the passes over them read them. Assumes nothing.
 use mathlib.Core.Path.{_≡_}
 use mathlib.Core.Bool.{Bool, cond, _&&_}
-use mathlib.Core.List.{List, [], _∷_}
+use mathlib.Core.List.{List}
 use Prim.Native.Nat.{ℕ, _+_, _*_, _<_, _≤_}
 use lib.Dec.{eqb, leb}
 use lib.ListN.{length}
@@ -12,7 +12,7 @@ use Rattle.tape.specs.Bounds.{maxQubits}
 use Rattle.fuse.specs.Layout.{matrix2Of, matrix4Of}
 use Rattle.detect.specs.declared.count.Counts.{Counts}
 use Rattle.resolve.specs.Items as Items
-use Rattle.resolve.specs.Items.{Item, newestFirst}
+use Rattle.resolve.specs.Items.{Item, newestFirst, ItemBelow, ItemsBelow}
 use Rattle.resolve.specs.Slots.{residualAt, itemAt}
 
 -- record i holds an item
@@ -43,17 +43,6 @@ qubitMode us q = markAt us (markAt us (markAt us q labColumn) contentColumn) pos
 -- the first n marks of a column are below b
 abbrev pub ColumnBelow : List ℕ → ℕ → ℕ → ℕ → Type 0
 ColumnBelow us c n b = (k : ℕ) → k < n → markAt us k c < b
-
--- the wires of an item are below n
-abbrev pub ItemBelow : ℕ → Item → Type 0
-ItemBelow n (Items.one w u) = w < n
-ItemBelow n (Items.two k a b r v) = (a < n) × (b < n)
-ItemBelow n Items.opaque = Unit {0}
-
--- so are those of each item of a list
-unfoldable pub ItemsBelow : ℕ → List Item → Type 0
-ItemsBelow n [] = Unit {0}
-ItemsBelow n (x ∷ xs) = ItemBelow n x × ItemsBelow n xs
 
 -- counts that grow without wrapping
 pub record Small (c : Counts) : Type 0 where

@@ -4,11 +4,10 @@ ghost use Rattle.detect.specs.Report.{fractionOf, writtenCount, exactOf,
 ghost use Rattle.detect.specs.Compile.{refusal};
 use crate::count::Counts;
 use order::Ordering;
+use tape::MAX_QUBITS;
 
-// Entries of the tables: one for each qubit that there can be.
-pub const MAX_QUBITS: usize = 128;
-
-// What the detector found. Of the tables the first n entries count: the wire on each mode, whether a path starts there, the mode of each qubit.
+// What the detector found. The tables have an entry for each qubit that there can be, and the first n count: the wire on each mode, whether a path
+// starts there, the mode of each qubit.
 pub struct Report {
     pub n: usize,
     pub blocks: u32,
@@ -26,9 +25,9 @@ pub struct Report {
     pub free: bool,
     pub angled: bool,
     pub ordering: Ordering,
-    pub order: [u16; 128],
-    pub starts: [u16; 128],
-    pub modes: [u16; 128],
+    pub order: [u16; MAX_QUBITS],
+    pub starts: [u16; MAX_QUBITS],
+    pub modes: [u16; MAX_QUBITS],
 }
 
 pub enum Answer {
@@ -77,9 +76,9 @@ pub fn report_of(
     swaps: usize,
     angled: bool,
     ordering: Ordering,
-    order: [u16; 128],
-    starts: [u16; 128],
-    modes: [u16; 128],
+    order: [u16; MAX_QUBITS],
+    starts: [u16; MAX_QUBITS],
+    modes: [u16; MAX_QUBITS],
 ) -> Report
     ensures { λ r. ⌜ r ≡ reportOf n c swaps angled ordering order starts modes ⌝ }
 {
@@ -112,9 +111,9 @@ pub fn report_of(
 pub fn refuse(number: u32, place: usize) -> Compiled
     ensures { λ r. ⌜ r ≡ refusal number place ⌝ }
 {
-    let order = [0; 128];
-    let starts = [0; 128];
-    let modes = [0; 128];
+    let order = [0; MAX_QUBITS];
+    let starts = [0; MAX_QUBITS];
+    let modes = [0; MAX_QUBITS];
     let report = Report {
         n: 0,
         blocks: 0,

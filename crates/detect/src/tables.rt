@@ -5,17 +5,18 @@ ghost use Rattle.work.specs.Marks.{Records, column};
 ghost use Rattle.tape.specs.Bounds.{maxQubits};
 ghost use Rattle.detect.specs.Report.{table};
 ghost use Rattle.detect.specs.Records.{qubitMode, ColumnBelow, QubitThere, QubitsThere};
+use tape::MAX_QUBITS;
 use work::CONTENT;
 use work::LAB;
 use work::POS;
 use work::mark;
 
 // The first n marks of column c: the wire on each mode, the path starts.
-pub fn column_table(u: &[u32], n: usize, c: usize) -> [u16; 128]
+pub fn column_table(u: &[u32], n: usize, c: usize) -> [u16; MAX_QUBITS]
     requires { ⌜ Records (now u) n × (n ≤ maxQubits) × (c < 32) × ColumnBelow (now u) c n 65536 ⌝ }
     ensures { λ r. ⌜ r ≡ table n (column c (now (u .entry))) ⌝ }
 {
-    let mut t = [0; 128];
+    let mut t = [0; MAX_QUBITS];
     let mut k = 0;
     while k < n {
         t[k] = mark(u, k, c) as u16;
@@ -35,11 +36,11 @@ fn mode_of_qubit(u: &[u32], n: usize, q: usize) -> u32
 }
 
 // The mode of each qubit.
-pub fn mode_table(u: &[u32], n: usize) -> [u16; 128]
+pub fn mode_table(u: &[u32], n: usize) -> [u16; MAX_QUBITS]
     requires { ⌜ QubitsThere (now u) n ⌝ }
     ensures { λ r. ⌜ r ≡ table n (qubitMode (now (u .entry))) ⌝ }
 {
-    let mut t = [0; 128];
+    let mut t = [0; MAX_QUBITS];
     let mut q = 0;
     while q < n {
         t[q] = mode_of_qubit(u, n, q) as u16;

@@ -1,4 +1,4 @@
--- `apply` reads back what the compiler writes: an operation's own 18 places decode to its mode and the numbers that stand there. Assumes nothing.
+-- `apply` reads back what the compiler writes: an operation's own 18 places decode to its mode and its numbers. Assumes nothing.
 use mathlib.Core.Path.{_≡_, refl, ap}
 use mathlib.Core.Bool.{false}
 use Prim.Native.Nat.{ℕ, _+_, _-_, _≤_, _<_}
@@ -6,24 +6,23 @@ use native.Mathlib.Omega.{arith}
 use lib.Dec.{eqb}
 use lib.Ieee.{ofBits, eq}
 use borrow.Author.Tests.{ne-eqb}
+use Rattle.real.specs.declared.maps.Map2.{Map2}
+use Rattle.real.specs.declared.maps.Map4.{Map4}
 use Rattle.gate.specs.declared.complex.Complex.{Complex}
-use Rattle.majorana.specs.declared.maps.Map2 as majorana2
-use Rattle.majorana.specs.declared.maps.Map4 as majorana4
 use Rattle.detect.specs.Operation.{one, two, interaction, placesOf}
 use Rattle.state.specs.Bounds.{maxQubits}
-use Rattle.state.specs.Operation.{map2Of, map4Of, interactionOf, oneOf, twoOf, decodeOf}
+use Rattle.state.specs.Operation.{interactionOf, oneOf, twoOf, decodeOf}
 use Rattle.state.specs.declared.operation.Operation.the-variants.{One, Two}
 use Rattle.state.specs.declared.operation.Decoded.the-variants.{Good}
 use Rattle.state.proofs.Operations.{mode-back}
 
 -- "kind 1"
-pub decode-one : (n k : ℕ) (q : majorana2.Map2) → k < n → n ≤ maxQubits → decodeOf n (placesOf (one k q)) ≡ Good (One k (map2Of (placesOf (one k q))))
+pub decode-one : (n k : ℕ) (q : Map2) → k < n → n ≤ maxQubits → decodeOf n (placesOf (one k q)) ≡ Good (One k q)
 unfolding decodeOf placesOf oneOf ofBits eq
 decode-one n k q h m = ap (oneOf (placesOf (one k q))) (mode-back k n h m)
 
 -- "kind 2": its successor is a mode too
-pub decode-two : (n k : ℕ) (q : majorana4.Map4) → k + 1 < n → n ≤ maxQubits
-    → decodeOf n (placesOf (two k q)) ≡ Good (Two k (map4Of (placesOf (two k q))))
+pub decode-two : (n k : ℕ) (q : Map4) → k + 1 < n → n ≤ maxQubits → decodeOf n (placesOf (two k q)) ≡ Good (Two k q)
 unfolding decodeOf placesOf twoOf ofBits eq
 decode-two n k q h m =
     let z : eqb n 0 ≡ false = ne-eqb n 0 (λ e. omega arith) in

@@ -11,6 +11,7 @@ use lib.ListN.{length}
 use lib.Ieee.{Float}
 use borrow.Author.Tests.{eqb-true, lt-ltb, le-ltb}
 use Rattle.laws.proofs.Cases.{lt-or-le}
+use Rattle.laws.proofs.Lists.{all-append}
 use Rattle.gate.specs.Complex.{f0}
 use Rattle.gate.specs.declared.matrix.Mat4.{Mat4}
 use Rattle.tape.specs.Good.{GoodGate}
@@ -23,11 +24,10 @@ use Rattle.majorana.specs.declared.diagonal.Rotation.the-variants.{By, Nothing}
 use Rattle.order.specs.Arrangement.{absDiffOf, besideOf}
 use Rattle.order.proofs.Permutation.{order-permutes}
 use Rattle.resolve.specs.Items as Items
-use Rattle.resolve.specs.Items.{Item}
+use Rattle.resolve.specs.Items.{Item, ItemBelow, ItemsBelow}
 use Rattle.detect.specs.Operation.{Operation, one, two, interaction, placesOf}
 use Rattle.detect.specs.Emit.{orientedOf, lowerOf, rotated, rotationsOf, twoOperations, itemOperations, operationsOf}
 use Rattle.detect.specs.Counts.{gaussian, interacting, bad, apart, adjacentShare, matchShare, turnsIn, twoShare, plusOf, shareOf, countedOnto, countsOf}
-use Rattle.detect.specs.Records.{ItemBelow, ItemsBelow}
 use Rattle.detect.specs.Report.{freeOf}
 use Rattle.detect.specs.Compile.{reordersOf, matchPairs, itemsOf, orderOf, modeOf, tallyOf, programOf}
 use Rattle.detect.proofs.Wires.{wires-items}
@@ -45,22 +45,16 @@ fitting-decodes n (two k q) m f = (_, decode-two n k q f m)
 fitting-decodes n (interaction k block second w) m f = (_, decode-interaction n k block second w)
 
 module _ (n : ℕ) where
-  both-fit : (a b : List Operation) → AllFit n a → AllFit n b → AllFit n (a ++ b)
-  unfolding AllFit
-  both-fit [] b f g = g
-  both-fit (o ∷ a) b f g = (f .0, both-fit a b (f .1) g)
-
   -- ---- what an item becomes
 
   rotated-fits : (k : ℕ) (x : Rotation) → k < n → AllFit n (rotated k x)
-  unfolding AllFit
   rotated-fits k (By q) h = (h, tt)
   rotated-fits k Nothing h = tt
 
   rotations-fit : (i j : ℕ) (v : Mat4) → i < n → j < n → AllFit n (rotationsOf i j v)
   unfolding rotationsOf
   rotations-fit i j v h g =
-      both-fit (rotated i (rotationOf (phaseAOf v))) (rotated j (rotationOf (phaseBOf v))) (rotated-fits i (rotationOf (phaseAOf v)) h)
+      all-append (Fitting n) (rotated i (rotationOf (phaseAOf v))) (rotated j (rotationOf (phaseBOf v))) (rotated-fits i (rotationOf (phaseAOf v)) h)
       (rotated-fits j (rotationOf (phaseBOf v)) g)
 
   -- the lower of two neighbours has its successor below n
@@ -84,7 +78,7 @@ module _ (n : ℕ) where
       by false e = absurd (omega (arith, e))
 
   two-fit : (block kind i j : ℕ) (r : Float) (v : Mat4) → i < n → j < n → twoShare kind i j r v .bad ≡ 0 → AllFit n (twoOperations block kind i j v)
-  unfolding twoShare twoOperations AllFit
+  unfolding twoShare twoOperations
   two-fit block kind i j r v h g e = by (eqb kind 5) (eqb kind 6) (eqb kind 7) e
     where
       by : (a b c : Bool) → cond a (matchShare i j r v) (cond b (gaussian 1 (turnsIn v) f0 true) (cond c (interacting (turnsIn v + 1)) (bad 1 0 r))) .bad ≡ 0
@@ -92,23 +86,22 @@ module _ (n : ℕ) where
           (cond c (rotationsOf i j v ++ (interaction i block j (unitOf (interactionOf v)) ∷ [])) [])))
       by true b c e = (lower-fits i j h g (match-beside i j r v e), tt)
       by false true c e = rotations-fit i j v h g
-      by false false true e = both-fit (rotationsOf i j v) (interaction i block j (unitOf (interactionOf v)) ∷ []) (rotations-fit i j v h g) (tt, tt)
+      by false false true e = all-append (Fitting n) (rotationsOf i j v) (interaction i block j (unitOf (interactionOf v)) ∷ []) (rotations-fit i j v h g) (tt, tt)
       by false false false e = tt
 
   -- ---- the items
 
   module _ (tol : Float) (pos : ℕ → ℕ) (there : (w : ℕ) → w < n → pos w < n) where
     item-fits : (block : ℕ) (x : Item) → ItemBelow n x → shareOf tol pos x .bad ≡ 0 → AllFit n (itemOperations pos block x)
-    unfolding AllFit
     item-fits block (Items.one w u) h e = (there w h, tt)
     item-fits block (Items.two kind a b r v) h e = two-fit block kind (pos a) (pos b) r v (there a (h .0)) (there b (h .1)) e
     item-fits block Items.opaque h e = tt
 
     pub operations-fit : (l : List Item) → ItemsBelow n l → countsOf tol pos l .bad ≡ 0 → AllFit n (operationsOf pos l)
-    unfolding operationsOf countedOnto plusOf ItemsBelow AllFit
+    unfolding operationsOf countedOnto plusOf
     operations-fit [] h e = tt
     operations-fit (x ∷ l) h e =
-        both-fit (operationsOf pos l) (itemOperations pos (length l) x) (operations-fit l (h .1) (omega (arith, e)))
+        all-append (Fitting n) (operationsOf pos l) (itemOperations pos (length l) x) (operations-fit l (h .1) (omega (arith, e)))
         (item-fits (length l) x (h .0) (omega (arith, e)))
 
 -- ---- the program of a tape
@@ -119,7 +112,7 @@ module _ (h : Header) (gs : List Gate) (good : (x : Gate) → List·Memᴰ x gs 
   mode-there w l = order-permutes (reordersOf h) (h .n) (matchPairs (itemsOf h gs .items)) .there w l
 
   pub program-fits : AllFit (h .n) (programOf h gs)
-  unfolding programOf tallyOf AllFit
+  unfolding programOf tallyOf
   program-fits = by (freeOf (tallyOf h gs)) refl
     where
       by : (t : Bool) → freeOf (tallyOf h gs) ≡ t → AllFit (h .n) (cond t (operationsOf (modeOf h gs) (itemsOf h gs .items)) [])

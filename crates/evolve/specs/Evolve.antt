@@ -3,6 +3,7 @@ use mathlib.Core.List.{List, [], _∷_}
 use Prim.Native.Nat.{ℕ, zero, suc, _+_, _<_}
 use lib.ListN.{take, drop}
 use lib.Ieee.{Float}
+use Rattle.laws.specs.Lists.{All}
 use Rattle.detect.specs.Operation.{Operation, one, two, interaction, placesOf}
 use Rattle.state.specs.Bounds.{opPlaces}
 use Rattle.state.specs.State.{State, vacuum}
@@ -37,6 +38,5 @@ Fitting n (one k q) = k < n
 Fitting n (two k q) = k + 1 < n
 Fitting n (interaction k block second w) = Unit {0}
 
-unfoldable pub AllFit : ℕ → List Operation → Type 0
-AllFit n [] = Unit {0}
-AllFit n (o ∷ os) = Fitting n o × AllFit n os
+abbrev pub AllFit : ℕ → List Operation → Type 0
+AllFit n = All (Fitting n)

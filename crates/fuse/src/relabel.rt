@@ -13,6 +13,7 @@ use crate::records::put_matrix4;
 use gate::Mat2;
 use gate::Mat4;
 use tape::Gate;
+use tape::HEADER_LENGTH;
 use tape::gate_at;
 use tape::next_gate;
 use work::A;
@@ -29,9 +30,6 @@ use work::put_mark;
 
 // The code of an explicit Swap.
 const SWAP: usize = 18;
-
-// The place of the first record after the header.
-const HEADER_LENGTH: usize = 20;
 
 // The marks of event k.
 fn put_event(u: &mut [u32], k: usize, kind: u32, a: u32, b: u32, c: u32)

@@ -1,6 +1,7 @@
 -- The laws: on lists and slices, on tables, on floats, and on matrices in a slice. Assumes nothing.
 pub mod Cases
 pub mod Views
+pub mod Lists
 pub mod Slices
 pub mod Stores
 pub mod Tables

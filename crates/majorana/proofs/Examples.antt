@@ -2,6 +2,7 @@
 use mathlib.Core.Path.{_≡_, refl}
 use mathlib.Core.Bool.{true, false}
 use lib.Ieee.{Float, inf, nan, binary64, add, sub, mul, div, neg, eq, lt, le, ofBits, isNan}
+use Rattle.real.specs.Maps.{real2, map2}
 use Rattle.num.specs.Order.{absOf, maxOf, minOf}
 use Rattle.num.specs.Root.{sqrtOf}
 use Rattle.gate.specs.Complex.{cx, f0, f1, c0, c1, isZeroOf}
@@ -9,7 +10,6 @@ use Rattle.gate.specs.Matrix.{kronRowOf, kronOf, axpyOf, rowMulOf, mul4Of, conj
 use Rattle.gate.specs.Table.{f-1, c-1, ci, gateCnot, gateCz, gateISwap, gateSwap}
 use Rattle.majorana.specs.declared.diagonal.Rotation.the-variants.{By, Nothing}
 use Rattle.majorana.specs.declared.classify.Kind2.the-variants.{Diag, Interaction, Match, NonGaussian}
-use Rattle.majorana.specs.Maps.{real2, map2}
 use Rattle.majorana.specs.Majorana.{
   largestRootOf,
   majorana0,

@@ -3,15 +3,15 @@
 use mathlib.Core.Bool.{Bool, cond, not, _&&_}
 use lib.Ieee.{Float, binary64, add, mul, div, neg, lt, le, eq}
 use lib.Ieee.Scale.{finite}
+use Rattle.real.specs.Maps.{real2, map2}
+use Rattle.real.specs.declared.maps.Map2.{Map2}
 use Rattle.num.specs.Order.{absOf}
 use Rattle.num.specs.Root.{sqrtOf}
 use Rattle.gate.specs.Complex.{_*ℂ_, conjOf, normSqrOf, cx, f0, c1}
 use Rattle.gate.specs.declared.complex.Complex.{Complex}
 use Rattle.gate.specs.declared.matrix.Mat4.{Mat4}
-use Rattle.majorana.specs.declared.maps.Map2.{Map2}
 use Rattle.majorana.specs.declared.diagonal.Rotation.{Rotation}
 use Rattle.majorana.specs.declared.diagonal.Rotation.the-variants.{By, Nothing}
-use Rattle.majorana.specs.Maps.{real2, map2}
 
 -- ---- the off-diagonal norm
 

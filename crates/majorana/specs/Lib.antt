@@ -1,5 +1,4 @@
 -- What the contracts of `majorana` speak of. Definitions only.
-pub mod Maps
 pub mod Majorana
 pub mod Diagonal
 pub mod Classify

@@ -3,6 +3,9 @@
 -- Names that end in 2 are of one mode (2 by 2), those that end in 4 of two (4 by 4). Assumes nothing.
 use mathlib.Core.List.{List, [], _∷_}
 use lib.Ieee.{Float, binary64, add, div, ofBits}
+use Rattle.real.specs.Maps.{real2, map2, real4, map4}
+use Rattle.real.specs.declared.maps.Real2.{Real2}
+use Rattle.real.specs.declared.maps.Real4.{Real4}
 use Rattle.num.specs.Order.{maxOf}
 use Rattle.num.specs.Root.{sqrtOf}
 use Rattle.gate.specs.Complex.{_+ℂ_, _-ℂ_, _*ℂ_, scaleOf, normSqrOf, f0, c0}
@@ -13,11 +16,8 @@ use Rattle.gate.specs.declared.matrix.Row2.{Row2}
 use Rattle.gate.specs.declared.matrix.Mat2.{Mat2}
 use Rattle.gate.specs.declared.matrix.Row4.{Row4}
 use Rattle.gate.specs.declared.matrix.Mat4.{Mat4}
-use Rattle.majorana.specs.declared.maps.Real2.{Real2}
-use Rattle.majorana.specs.declared.maps.Real4.{Real4}
 use Rattle.majorana.specs.declared.maps.Mapped2.{Mapped2}
 use Rattle.majorana.specs.declared.maps.Mapped4.{Mapped4}
-use Rattle.majorana.specs.Maps.{real2, map2, real4, map4}
 
 abbrev pub f2 : Float
 f2 = ofBits binary64 0x4000_0000_0000_0000

@@ -2,13 +2,13 @@
 -- own treatment of NaN: the first says no there and the second yes. Assumes nothing.
 use mathlib.Core.Bool.{Bool, not, _&&_}
 use lib.Ieee.{Float, binary64, add, sub, mul, lt, ofBits}
+use Rattle.real.specs.Maps.{real4, map4}
+use Rattle.real.specs.declared.maps.Map2.{Map2}
+use Rattle.real.specs.declared.maps.Real4.{Real4}
+use Rattle.real.specs.declared.maps.Map4.{Map4}
 use Rattle.num.specs.Order.{absOf}
 use Rattle.gate.specs.Complex.{f0, f1}
 use Rattle.gate.specs.Table.{f-1}
-use Rattle.majorana.specs.declared.maps.Map2.{Map2}
-use Rattle.majorana.specs.declared.maps.Real4.{Real4}
-use Rattle.majorana.specs.declared.maps.Map4.{Map4}
-use Rattle.majorana.specs.Maps.{real4, map4}
 
 -- 1e-9
 abbrev pub slack : Float

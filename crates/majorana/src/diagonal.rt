@@ -3,10 +3,10 @@
 ghost use mathlib.Core.Path.{_≡_};
 ghost use Rattle.majorana.specs.Diagonal.{plusThreeOf, offdiag4Of, phaseAOf, phaseBOf, interactionOf, phaseNoneOf, unitOf, turnsOf, rotationMapOf, rotationOf};
 ghost use Rattle.majorana.specs.Parts.{divisorOf};
-use crate::maps::Map2;
-use crate::maps::Real2;
 use gate::Complex;
 use gate::Mat4;
+use real::Map2;
+use real::Real2;
 
 // The rotation of a wire, or none.
 pub enum Rotation {

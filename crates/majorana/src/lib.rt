@@ -2,7 +2,7 @@
 // class of a two-qubit block. detect.rs of the original from `majoranas2` to `classify2`, and its
 // tests on the particle number.
 
-mod maps; // real maps of Majorana operators, by value
+mod maps; // a map of Majorana operators with its residual
 mod operators; // the Majorana operators of two modes, and products by them
 mod one_mode; // the map of one mode
 mod two_modes; // the map of two modes
@@ -25,12 +25,8 @@ pub use diagonal::rotation_map;
 pub use diagonal::rotation_of;
 pub use diagonal::turns;
 pub use diagonal::unit;
-pub use maps::Map2;
-pub use maps::Map4;
 pub use maps::Mapped2;
 pub use maps::Mapped4;
-pub use maps::Real2;
-pub use maps::Real4;
 pub use numbers::commutes_j2;
 pub use numbers::number_conserving4;
 pub use one_mode::majorana_map1;

@@ -1,11 +1,11 @@
 // Whether a map commutes with the particle number.
 ghost use mathlib.Core.Path.{_≡_};
 ghost use mathlib.Core.Bool.{_&&_};
-ghost use Rattle.majorana.specs.Maps.{real4};
+ghost use Rattle.real.specs.Maps.{real4};
 ghost use Rattle.majorana.specs.Numbers.{commutesJ2Of, dot4Of, realRowMulOf, closeOf, closeRowOf, commutesRowOf, numberConserving4Of};
-use crate::maps::Map2;
-use crate::maps::Map4;
-use crate::maps::Real4;
+use real::Map2;
+use real::Map4;
+use real::Real4;
 
 // How far apart two entries may be that count as equal.
 const SLACK: f64 = 1e-9;

@@ -2,12 +2,12 @@
 ghost use mathlib.Core.Path.{_≡_};
 ghost use Rattle.majorana.specs.Majorana.{trace2Of, coefficients2Of, lessRow2Of, plusRow2Of, distance2Of, majoranaMap1Of};
 ghost use Rattle.majorana.specs.Parts.{reTraceRow2Of, fitted2Of};
-use crate::maps::Map2;
 use crate::maps::Mapped2;
-use crate::maps::Real2;
 use gate::Complex;
 use gate::Mat2;
 use gate::Row2;
+use real::Map2;
+use real::Real2;
 
 const ZERO: Complex = Complex { re: 0.0, im: 0.0 };
 

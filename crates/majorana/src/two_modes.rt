@@ -5,13 +5,13 @@ ghost use Rattle.gate.specs.Complex.{f0};
 ghost use Rattle.gate.specs.Matrix.{row4};
 ghost use Rattle.majorana.specs.Majorana.{trace4Of, coefficients4Of, lessRow4Of, plusRow4Of, distance4Of, majoranaMap2Of};
 ghost use Rattle.majorana.specs.Parts.{reTraceRow4Of, fitted4Of, largestOf};
-use crate::maps::Map4;
 use crate::maps::Mapped4;
-use crate::maps::Real4;
 use crate::operators::*;
 use gate::Complex;
 use gate::Mat4;
 use gate::Row4;
+use real::Map4;
+use real::Real4;
 
 // A row of the map, and its part of the residual, squared.
 pub struct Fitted4 {

@@ -11,12 +11,13 @@ use lib.Ieee.Fits.{and-l, and-r, div-fits}
 use Rattle.laws.specs.Dyadic.{Dy}
 use Rattle.laws.specs.Matrix.{Mat}
 use Rattle.laws.specs.Maps.{Local, rows, cols}
+use Rattle.real.specs.Maps.{row4, entry4, local4}
 use Rattle.gate.specs.Complex.{f0, f1}
 use Rattle.gate.specs.declared.matrix.Mat4.{Mat4}
 use Rattle.majorana.specs.Majorana.{f4, majorana0, majorana1, majorana2, majorana3, image4Of, coefficients4Of, square4Of, rest4Of, distance4Of, mapRow4Of, mapDistance4Of, majoranaMap2Of}
 use Rattle.monomial.specs.Groups.{Four, Mat4Of}
 use Rattle.monomial.specs.Monomial.{Entry, IsEntry, Mono4, entriesOf, Has4, bitA, bitB, Fits, Unfit}
-use Rattle.monomial.specs.Basis.{basis, bits, Block, Signed, rowZ, Permutes, permuted, real4At, map4At}
+use Rattle.monomial.specs.Basis.{basis, bits, Block, Signed, rowZ, Permutes, permuted}
 use Rattle.monomial.proofs.Tests.{everyBit, at-bit, at-each}
 use Rattle.monomial.proofs.Operators.{operator, image4, image4-law, has-majorana0, has-majorana1, has-majorana2, has-majorana3}
 use Rattle.monomial.proofs.Images.{signed4, row-near4, distance-near4, distance-far4}
@@ -32,7 +33,7 @@ module _ (c u : Mat4) (p v : Four (Four Entry)) (C : Mat4Of IsEntry c p) (U : Ma
   is-image : (others : Bool) → T (isOperator others (image4 p v) e) → Mat4Of IsEntry (image4Of c u) (signed4 (e .minus) (operator others (e .at)))
   is-image others t = subst (Mat4Of IsEntry (image4Of c u)) (operator-is others (image4 p v) e t .1) (image4-law c u p v C U)
 
-  near-row : T (isOperator false (image4 p v) e) → (j : ℕ) → j < 4 → Dy 0 (rowZ e j) (real4At (mapRow4Of c u) j)
+  near-row : T (isOperator false (image4 p v) e) → (j : ℕ) → j < 4 → Dy 0 (rowZ e j) (row4 (mapRow4Of c u) j)
   unfolding mapRow4Of
   near-row t = row-near4 (image4Of c u) (e .minus) (e .at) (operator-is false (image4 p v) e t .0) (is-image false t)
 
@@ -112,7 +113,7 @@ module _ (u : Mat4) (b : Mono4) (U : Has4 u b) where
       largest-one _ _ d0 (d1, (d2, (d3, tt)))
 
   -- "its map is a signed permutation"
-  pub permutation : Fits b → Permutes 4 (permOf b) (map4At (majoranaMap2Of u .q))
+  pub permutation : Fits b → Permutes 4 (permOf b) (entry4 (majoranaMap2Of u .q))
   unfolding majoranaMap2Of permOf
   permutation F =
       let t = each-operator false (imagesOf b) (readOf b) (operators b F) in
@@ -129,14 +130,14 @@ module _ (u : Mat4) (b : Mono4) (U : Has4 u b) where
       }
     where
       Row : ℕ → Type 0
-      Row i = (j : ℕ) → j < 4 → Dy 0 (rowZ (nth (readOf b) i) j) (map4At (majoranaMap2Of u .q) i j)
+      Row i = (j : ℕ) → j < 4 → Dy 0 (rowZ (nth (readOf b) i) j) (entry4 (majoranaMap2Of u .q) i j)
 
       in-range : (i : ℕ) → T (isOperator false (nth (imagesOf b) i) (nth (readOf b) i)) → nth (readOf b) i .at < 4
       in-range i t = operator-is false (nth (imagesOf b) i) (nth (readOf b) i) t .0
 
   -- the map on two modes from the index s on
   abbrev pub mapAt : ℕ → Local
-  mapAt s = record { start = s; width = 4; map = map4At (majoranaMap2Of u .q) }
+  mapAt s = local4 s (majoranaMap2Of u .q)
 
   -- the covariance of the bits x y becomes that of the bits after
   pub moves-basis : Fits b → (s : ℕ) (m : Mat) (x y : Bool) → Block s 4 (basis (bits x y)) m

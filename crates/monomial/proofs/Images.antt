@@ -6,15 +6,16 @@ use lib.Dec.{T}
 use lib.IntN.{ℤ, pos}
 use lib.Ieee.Fits.{and-l, and-r}
 use Rattle.laws.specs.Dyadic.{Dy}
+use Rattle.real.specs.Maps.{row2, row4}
+use Rattle.real.specs.declared.maps.Real2.{Real2}
+use Rattle.real.specs.declared.maps.Real4.{Real4}
 use Rattle.gate.specs.declared.matrix.Mat2.{Mat2}
 use Rattle.gate.specs.declared.matrix.Mat4.{Mat4}
-use Rattle.majorana.specs.declared.maps.Real2.{Real2}
-use Rattle.majorana.specs.declared.maps.Real4.{Real4}
 use Rattle.majorana.specs.Majorana.{coefficients2Of, distance2Of, coefficients4Of, distance4Of}
 use Rattle.monomial.specs.Groups.{Two, two, Four, four, Mat2Of, Mat4Of}
 use Rattle.monomial.specs.Phase.{i2}
 use Rattle.monomial.specs.Monomial.{Entry, unit, IsEntry}
-use Rattle.monomial.specs.Basis.{Signed, unitAt, rowZ, real2At, real4At}
+use Rattle.monomial.specs.Basis.{Signed, unitAt, rowZ}
 use Rattle.monomial.proofs.Known.{Known, is, is-known}
 use Rattle.monomial.proofs.Complexes.{IsComplex}
 use Rattle.monomial.proofs.Entries.{times}
@@ -63,7 +64,7 @@ module _ (w : Mat2) (m : Bool) (i : ℕ) (small : i < 2) (h : Mat2Of IsEntry w (
   passed2 : T (near2 m i)
   passed2 = at-place 2 (near2 m) (at-bit (λ m. everyPlace 2 (near2 m)) all-near2 m) i small
 
-  pub row-near2 : (j : ℕ) → j < 2 → Dy 0 (rowZ (unitAt m i) j) (real2At (coefficients2Of w) j)
+  pub row-near2 : (j : ℕ) → j < 2 → Dy 0 (rowZ (unitAt m i) j) (row2 (coefficients2Of w) j)
   row-near2 =
       let v = values2 (signed2 m (pauli i)) in
       each (coefficients2Of w) (mapRow2 v) (mapRow2-law w v known2)
@@ -72,9 +73,9 @@ module _ (w : Mat2) (m : Bool) (i : ℕ) (small : i < 2) (h : Mat2Of IsEntry w (
       z : ℕ → ℤ
       z = rowZ (unitAt m i)
 
-      each : (q : Real2) (r : Two Known) → Reals2Of q r → T (rowIs2 r (unitAt m i)) → (j : ℕ) → j < 2 → Dy 0 (rowZ (unitAt m i) j) (real2At q j)
+      each : (q : Real2) (r : Two Known) → Reals2Of q r → T (rowIs2 r (unitAt m i)) → (j : ℕ) → j < 2 → Dy 0 (rowZ (unitAt m i) j) (row2 q j)
       each q (two a b) k t =
-          at-each 2 (λ j. Dy 0 (rowZ (unitAt m i) j) (real2At q j)) (
+          at-each 2 (λ j. Dy 0 (rowZ (unitAt m i) j) (row2 q j)) (
             is-known (q .x0) a (z 0) (k .0) (and-l (is a (z 0)) (is b (z 1)) t),
             (is-known (q .x1) b (z 1) (k .1) (and-r (is a (z 0)) (is b (z 1)) t), tt),
           )
@@ -116,7 +117,7 @@ module _ (w : Mat4) (m : Bool) (i : ℕ) (small : i < 4) (h : Mat4Of IsEntry w (
   passed4 : T (near4 m i)
   passed4 = at-place 4 (near4 m) (at-bit (λ m. everyPlace 4 (near4 m)) all-near4 m) i small
 
-  pub row-near4 : (j : ℕ) → j < 4 → Dy 0 (rowZ (unitAt m i) j) (real4At (coefficients4Of w) j)
+  pub row-near4 : (j : ℕ) → j < 4 → Dy 0 (rowZ (unitAt m i) j) (row4 (coefficients4Of w) j)
   row-near4 =
       let v = values4 (signed4 m (operator false i)) in
       each (coefficients4Of w) (mapRow4 v) (mapRow4-law w v known4)
@@ -125,14 +126,14 @@ module _ (w : Mat4) (m : Bool) (i : ℕ) (small : i < 4) (h : Mat4Of IsEntry w (
       z : ℕ → ℤ
       z = rowZ (unitAt m i)
 
-      each : (q : Real4) (r : Four Known) → Reals4Of q r → T (rowIs4 r (unitAt m i)) → (j : ℕ) → j < 4 → Dy 0 (rowZ (unitAt m i) j) (real4At q j)
+      each : (q : Real4) (r : Four Known) → Reals4Of q r → T (rowIs4 r (unitAt m i)) → (j : ℕ) → j < 4 → Dy 0 (rowZ (unitAt m i) j) (row4 q j)
       each q (four a b c d) k t =
           let p = both-pairs (is a (z 0)) (is b (z 1)) (is c (z 2)) (is d (z 3)) t in
           let d0 = is-known (q .x0) a (z 0) (k .0) (p .0) in
           let d1 = is-known (q .x1) b (z 1) (k .1) (p .1) in
           let d2 = is-known (q .x2) c (z 2) (k .2) (p .2) in
           let d3 = is-known (q .x3) d (z 3) (k .3) (p .3) in
-          at-each 4 (λ j. Dy 0 (rowZ (unitAt m i) j) (real4At q j)) (d0, (d1, (d2, (d3, tt))))
+          at-each 4 (λ j. Dy 0 (rowZ (unitAt m i) j) (row4 q j)) (d0, (d1, (d2, (d3, tt))))
 
   pub distance-near4 : Dy 0 (pos 0) (distance4Of w (coefficients4Of w))
   distance-near4 =

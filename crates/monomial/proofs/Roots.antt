@@ -8,9 +8,11 @@ use lib.IntN.{pos}
 use lib.Ieee.{Float, nan, inf, fin, binary64, fits, isNan, ofBits}
 use lib.Ieee.Bits.{ofBits-fits}
 use Rattle.laws.specs.Dyadic.{Dy}
+use Rattle.laws.specs.Lists.{All}
 use Rattle.laws.proofs.Dyadic.{zero-nz}
 use Rattle.laws.proofs.DyadicOrder.{lt-dy}
 use Rattle.laws.proofs.DyadicFloat.{is-float}
+use Rattle.laws.proofs.Lists.{all-map}
 use Rattle.num.specs.Root.{sqrtOf}
 use Rattle.num.specs.Order.{maxOf}
 use Rattle.num.proofs.OrderLaws.{max-first, max-second}
@@ -63,19 +65,11 @@ root-four x f d = ap sqrtOf (is-float 0 (pos 4) x f4 (lit< tt) f (ofBits-fits bi
 
 -- ---- the largest of a list
 
-abbrev pub All : (Float → Type 0) → List Float → Type 0
-All P [] = Unit {0}
-All P (x ∷ xs) = P x × All P xs
-
 -- no root is above s
 stays : (s : Float) (xs : List Float) → All (λ x. maxOf s (sqrtOf x) ≡ s) xs → largestRootOf s xs ≡ s
 unfolding largestRootOf
 stays s [] h = refl
 stays s (x ∷ xs) h = ap (λ (t : Float). largestRootOf t xs) (h .0) ∙ stays s xs (h .1)
-
-each : {P Q : Float → Type 0} → ((x : Float) → P x → Q x) → (xs : List Float) → All P xs → All Q xs
-each f [] h = tt
-each f (x ∷ xs) h = (f x (h .0), each f xs (h .1))
 
 number0 : isNan f0 ≡ false
 unfolding isNan ofBits
@@ -88,7 +82,7 @@ number1 = refl
 pub largest-zero : (xs : List Float) → All (Dy 0 (pos 0)) xs → largestRootOf f0 xs ≡ f0
 largest-zero xs h =
     stays f0 xs
-    (each
+    (all-map
     (λ x d. ap (maxOf f0) (root-zero x d) ∙ max-first f0 x number0 (lt-dy 0 (pos 0) (pos 0) f0 x zero-is d))
     xs h)
 
@@ -102,6 +96,6 @@ largest-one x xs o h =
     ap (λ (t : Float). largestRootOf t xs)
     (ap (maxOf f0) (root-one x (o .0) (o .1)) ∙ max-second f0 f1 number0 (lt-dy 0 (pos 0) (pos 1) f0 f1 zero-is one-is))
     ∙ stays f1 xs
-    (each
+    (all-map
     (λ y d. ap (maxOf f1) (root-one y (d .0) (d .1)) ∙ max-first f1 f1 number1 (lt-dy 0 (pos 1) (pos 1) f1 f1 one-is one-is))
     xs h)

@@ -12,13 +12,14 @@ use Rattle.laws.specs.Matrix.{Mat}
 use Rattle.laws.specs.Maps.{Local, rows, cols}
 use Rattle.laws.proofs.Dyadic.{neg-dy}
 use Rattle.laws.proofs.DyadicOrder.{lt-dy, eq-dy}
+use Rattle.real.specs.Maps.{entry2, local2}
 use Rattle.gate.specs.Complex.{f0}
 use Rattle.gate.specs.declared.complex.Complex.{Complex}
 use Rattle.majorana.specs.Diagonal.{unitOf, turnsOf, rotationMapOf, rotationOf}
 use Rattle.majorana.specs.declared.diagonal.Rotation.the-variants.{By, Nothing}
 use Rattle.monomial.specs.Phase.{Phase, i0, i1, i2, i3, realZ, imagZ}
 use Rattle.monomial.specs.Monomial.{unit, IsEntry}
-use Rattle.monomial.specs.Basis.{basis, Block, Signed, unitAt, rowZ, Permutes, permuted, map2At}
+use Rattle.monomial.specs.Basis.{basis, Block, Signed, unitAt, rowZ, Permutes, permuted}
 use Rattle.monomial.proofs.Known.{eqZ→}
 use Rattle.monomial.proofs.Complexes.{zero-is}
 use Rattle.monomial.proofs.Entries.{by-phase}
@@ -93,29 +94,29 @@ module _ (p : Complex) (k : Phase) (P : IsEntry p (unit k)) where
   unfolding rotationOf
   rotation-is = ap (λ (b : Bool). cond b (By (rotationMapOf (unitOf p))) Nothing) turns-is
 
-  pub rotation-permutes : Permutes 2 (turnPerm k) (map2At (rotationMapOf (unitOf p)))
+  pub rotation-permutes : Permutes 2 (turnPerm k) (entry2 (rotationMapOf (unitOf p)))
   unfolding rotationMapOf
   rotation-permutes = record {
     rows = λ i j h g.
-        subst (λ (z : ℤ). Dy 0 z (map2At (rotationMapOf (unitOf p)) i j)) (row-is k i j h g) (at-each 2 Row (row-0, (row-1, tt)) i h j g);
+        subst (λ (z : ℤ). Dy 0 z (entry2 (rotationMapOf (unitOf p)) i j)) (row-is k i j h g) (at-each 2 Row (row-0, (row-1, tt)) i h j g);
     within = λ i h. ltb→lt (turnPerm k i .at) 2 (at-place 2 (λ i. ltb (turnPerm k i .at) 2) (and-r (rowsAre k) (inRange k) (left k)) i h);
     distinct = distinct-is 2 (turnPerm k) (and-l (distinct 2 (turnPerm k)) (keepsBits k) (right k));
   }
     where
       Row : ℕ → Type 0
-      Row i = (j : ℕ) → j < 2 → Dy 0 (turnZ k i j) (map2At (rotationMapOf (unitOf p)) i j)
+      Row i = (j : ℕ) → j < 2 → Dy 0 (turnZ k i j) (entry2 (rotationMapOf (unitOf p)) i j)
 
       row-0 : Row 0
       row-0 =
-          at-each 2 (λ j. Dy 0 (turnZ k 0 j) (map2At (rotationMapOf (unitOf p)) 0 j))
+          at-each 2 (λ j. Dy 0 (turnZ k 0 j) (entry2 (rotationMapOf (unitOf p)) 0 j))
           (unit-is p k P .0, (neg-dy 0 (imagZ k) (unitOf p .im) (unit-is p k P .1), tt))
 
       row-1 : Row 1
-      row-1 = at-each 2 (λ j. Dy 0 (turnZ k 1 j) (map2At (rotationMapOf (unitOf p)) 1 j)) (unit-is p k P .1, (unit-is p k P .0, tt))
+      row-1 = at-each 2 (λ j. Dy 0 (turnZ k 1 j) (entry2 (rotationMapOf (unitOf p)) 1 j)) (unit-is p k P .1, (unit-is p k P .0, tt))
 
   -- the rotation on one mode from the index s on
   abbrev pub turnAt : ℕ → Local
-  turnAt s = record { start = s; width = 2; map = map2At (rotationMapOf (unitOf p)) }
+  turnAt s = local2 s (rotationMapOf (unitOf p))
 
   pub rotation-keeps : (s : ℕ) (m : Mat) (x : Bool) → Block s 2 (basis (λ n. x)) m → Block s 2 (basis (λ n. x)) (cols (turnAt s) (rows (turnAt s) m))
   rotation-keeps s m x M i j h g =

@@ -9,6 +9,7 @@ use lib.Ieee.Fits.{and-l, and-r}
 use Rattle.laws.specs.Dyadic.{Dy}
 use Rattle.laws.specs.Matrix.{Mat}
 use Rattle.laws.specs.Maps.{Local, rows, cols}
+use Rattle.real.specs.Maps.{row2, entry2, local2}
 use Rattle.gate.specs.Complex.{f0}
 use Rattle.gate.specs.Table.{gateX, gateY}
 use Rattle.gate.specs.declared.matrix.Mat2.{Mat2}
@@ -16,7 +17,7 @@ use Rattle.majorana.specs.Majorana.{image2Of, mapRow2Of, mapDistance2Of, majora
 use Rattle.monomial.specs.Groups.{Two, two, Mat2Of}
 use Rattle.monomial.specs.Phase.{Phase}
 use Rattle.monomial.specs.Monomial.{Entry, IsEntry, flip, Mono2, entries2, Has2}
-use Rattle.monomial.specs.Basis.{basis, Block, Signed, rowZ, Permutes, permuted, real2At, map2At}
+use Rattle.monomial.specs.Basis.{basis, Block, Signed, rowZ, Permutes, permuted}
 use Rattle.monomial.proofs.Tests.{everyBit, everyPhase, at-bit, at-phase, both-pairs, at-each}
 use Rattle.monomial.proofs.Operators.{entriesX, entriesY, has-X, has-Y, image2, image2-law}
 use Rattle.monomial.proofs.Images.{signed2, pauli, row-near2, distance-near2}
@@ -84,7 +85,7 @@ module _ (c u : Mat2) (p v : Two (Two Entry)) (C : Mat2Of IsEntry c p) (U : Mat2
       let o = signed2 (e .minus) (pauli (e .at)) in
       subst (Mat2Of IsEntry (image2Of c u)) (same2→ (image2 p v) o (and-r (ltb (e .at) 2) (same2 (image2 p v) o) t)) (image2-law c u p v C U)
 
-  near-row : (j : ℕ) → j < 2 → Dy 0 (rowZ (readPauli (image2 p v)) j) (real2At (mapRow2Of c u) j)
+  near-row : (j : ℕ) → j < 2 → Dy 0 (rowZ (readPauli (image2 p v)) j) (row2 (mapRow2Of c u) j)
   unfolding mapRow2Of
   near-row = row-near2 (image2Of c u) (e .minus) (e .at) in-range is-image
 
@@ -143,7 +144,7 @@ module _ (u : Mat2) (b : Mono2) (U : Has2 u b) where
         (near-distance gateY u entriesY (entriesOf2 b) has-Y U (test-Y b), tt),
       )
 
-  pub permutation2 : Permutes 2 (permOf2 b) (map2At (majoranaMap1Of u .q))
+  pub permutation2 : Permutes 2 (permOf2 b) (entry2 (majoranaMap1Of u .q))
   unfolding majoranaMap1Of permOf2
   permutation2 = record {
     rows = λ i j h k. at-each 2 Row (row-X, (row-Y, tt)) i h j k;
@@ -152,7 +153,7 @@ module _ (u : Mat2) (b : Mono2) (U : Has2 u b) where
   }
     where
       Row : ℕ → Type 0
-      Row i = (j : ℕ) → j < 2 → Dy 0 (rowZ (readOf2 b i) j) (map2At (majoranaMap1Of u .q) i j)
+      Row i = (j : ℕ) → j < 2 → Dy 0 (rowZ (readOf2 b i) j) (entry2 (majoranaMap1Of u .q) i j)
 
       row-X : Row 0
       row-X = near-row gateX u entriesX (entriesOf2 b) has-X U (test-X b)
@@ -168,7 +169,7 @@ module _ (u : Mat2) (b : Mono2) (U : Has2 u b) where
 
   -- the map on one mode from the index s on
   abbrev pub mapAt2 : ℕ → Local
-  mapAt2 s = record { start = s; width = 2; map = map2At (majoranaMap1Of u .q) }
+  mapAt2 s = local2 s (majoranaMap1Of u .q)
 
   -- the covariance of the bit x becomes that of the bit after
   pub moves-basis2 : (s : ℕ) (m : Mat) (x : Bool) → Block s 2 (basis (λ k. x)) m

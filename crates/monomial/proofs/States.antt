@@ -16,6 +16,7 @@ use Rattle.laws.specs.Matrix.{Mat}
 use Rattle.laws.specs.Maps.{Local, inside, rows, cols}
 use Rattle.laws.proofs.Cases.{lt-or-le, eq-or-ne}
 use Rattle.laws.proofs.Maps.{inside-below, inside-above, rows-out, cols-out}
+use Rattle.real.specs.Maps.{entry2, entry4}
 use Rattle.gate.specs.declared.complex.Complex.{Complex}
 use Rattle.gate.specs.declared.matrix.Mat2.{Mat2}
 use Rattle.gate.specs.declared.matrix.Mat4.{Mat4}
@@ -23,7 +24,7 @@ use Rattle.majorana.specs.Majorana.{majoranaMap1Of, majoranaMap2Of}
 use Rattle.majorana.specs.Diagonal.{unitOf, rotationMapOf}
 use Rattle.monomial.specs.Phase.{Phase}
 use Rattle.monomial.specs.Monomial.{unit, IsEntry, flip, Mono2, Mono4, Has2, Has4, bitA, bitB, Fits}
-use Rattle.monomial.specs.Basis.{basis, bits, Block, IsBasis, Signed, signed, Permutes, permuted, map2At, map4At}
+use Rattle.monomial.specs.Basis.{basis, bits, Block, IsBasis, Signed, signed, Permutes, permuted}
 use Rattle.monomial.proofs.Fitting.{permOf, perm-moves, permutation}
 use Rattle.monomial.proofs.Single.{permOf2, perm-moves2, permutation2}
 use Rattle.monomial.proofs.Rotations.{turnPerm, turn-keeps, rotation-permutes}
@@ -180,9 +181,9 @@ module _ (k dim : ℕ) (b b′ : ℕ → Bool) (m : Mat) (M : IsBasis dim b m) w
   -- a two-qubit block that fits, on the modes k and k + 1
   pub fits-state : (u : Mat4) (a : Mono4) (U : Has4 u a) → Fits a → 2 * k + 4 ≤ dim
       → b′ k ≡ bitA a (b k) (b (k + 1)) → b′ (k + 1) ≡ bitB a (b k) (b (k + 1)) → ((n : ℕ) → (n < k) ⊎ (k + 2 ≤ n) → b n ≡ b′ n)
-      → IsBasis dim b′ (cols (modesAt k 2 (map4At (majoranaMap2Of u .q))) (rows (modesAt k 2 (map4At (majoranaMap2Of u .q))) m))
+      → IsBasis dim b′ (cols (modesAt k 2 (entry4 (majoranaMap2Of u .q))) (rows (modesAt k 2 (entry4 (majoranaMap2Of u .q))) m))
   fits-state u a U F room eA eB others =
-      state-moves k 2 dim (map4At (majoranaMap2Of u .q)) (permOf a) P b b′ others
+      state-moves k 2 dim (entry4 (majoranaMap2Of u .q)) (permOf a) P b b′ others
       (carried 4 (permOf a) (P .within) (λ n. b (k + n)) (bits x y) (λ n. b′ (k + n)) (bits (bitA a x y) (bitB a x y))
       (two-bits b k)
       (λ i h. two-bits b′ k i h ∙ (λ t. bits (eA t) (eB t) (i / 2)))
@@ -195,34 +196,34 @@ module _ (k dim : ℕ) (b b′ : ℕ → Bool) (m : Mat) (M : IsBasis dim b m) w
       y : Bool
       y = b (k + 1)
 
-      P : Permutes 4 (permOf a) (map4At (majoranaMap2Of u .q))
+      P : Permutes 4 (permOf a) (entry4 (majoranaMap2Of u .q))
       P = permutation u a U F
 
   -- a one-qubit block on the mode k
   pub single-state : (u : Mat2) (a : Mono2) (U : Has2 u a) → 2 * k + 2 ≤ dim
       → b′ k ≡ flip (a .turn) (b k) → ((n : ℕ) → (n < k) ⊎ (k + 1 ≤ n) → b n ≡ b′ n)
-      → IsBasis dim b′ (cols (modesAt k 1 (map2At (majoranaMap1Of u .q))) (rows (modesAt k 1 (map2At (majoranaMap1Of u .q))) m))
+      → IsBasis dim b′ (cols (modesAt k 1 (entry2 (majoranaMap1Of u .q))) (rows (modesAt k 1 (entry2 (majoranaMap1Of u .q))) m))
   single-state u a U room e others =
-      state-moves k 1 dim (map2At (majoranaMap1Of u .q)) (permOf2 a) P b b′ others
+      state-moves k 1 dim (entry2 (majoranaMap1Of u .q)) (permOf2 a) P b b′ others
       (carried 2 (permOf2 a) (P .within) (λ n. b (k + n)) (λ n. b k) (λ n. b′ (k + n)) (λ n. flip (a .turn) (b k))
       (one-bit b k)
       (λ i h. one-bit b′ k i h ∙ e)
       (perm-moves2 a (b k)))
       room m M
     where
-      P : Permutes 2 (permOf2 a) (map2At (majoranaMap1Of u .q))
+      P : Permutes 2 (permOf2 a) (entry2 (majoranaMap1Of u .q))
       P = permutation2 u a U
 
   -- the rotation of a phase on the mode k
   pub rotation-state : (z : Complex) (l : Phase) (Z : IsEntry z (unit l)) → 2 * k + 2 ≤ dim
-      → IsBasis dim b (cols (modesAt k 1 (map2At (rotationMapOf (unitOf z)))) (rows (modesAt k 1 (map2At (rotationMapOf (unitOf z)))) m))
+      → IsBasis dim b (cols (modesAt k 1 (entry2 (rotationMapOf (unitOf z)))) (rows (modesAt k 1 (entry2 (rotationMapOf (unitOf z)))) m))
   rotation-state z l Z room =
-      state-moves k 1 dim (map2At (rotationMapOf (unitOf z))) (turnPerm l) P b b (λ n h. refl)
+      state-moves k 1 dim (entry2 (rotationMapOf (unitOf z))) (turnPerm l) P b b (λ n h. refl)
       (carried 2 (turnPerm l) (P .within) (λ n. b (k + n)) (λ n. b k) (λ n. b (k + n)) (λ n. b k)
       (one-bit b k)
       (one-bit b k)
       (turn-keeps l (b k)))
       room m M
     where
-      P : Permutes 2 (turnPerm l) (map2At (rotationMapOf (unitOf z)))
+      P : Permutes 2 (turnPerm l) (entry2 (rotationMapOf (unitOf z)))
       P = rotation-permutes z l Z

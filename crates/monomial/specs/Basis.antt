@@ -2,18 +2,11 @@
 -- one entry, 1 or -1. Assumes nothing.
 use mathlib.Core.Path.{_≡_}
 use mathlib.Core.Bool.{Bool, true, false, not, cond, _&&_}
-use mathlib.Core.List.{[], _∷_}
 use Prim.Native.Nat.{ℕ, zero, suc, _+_, _/_, _%_, _<_}
 use lib.Dec.{eqb}
 use lib.IntN.{ℤ, pos, negℤ}
-use lib.ListN.{getD}
-use lib.Ieee.{Float, nan}
 use Rattle.laws.specs.Dyadic.{Dy, withSign}
 use Rattle.laws.specs.Matrix.{Mat}
-use Rattle.majorana.specs.declared.maps.Real2.{Real2}
-use Rattle.majorana.specs.declared.maps.Map2.{Map2}
-use Rattle.majorana.specs.declared.maps.Real4.{Real4}
-use Rattle.majorana.specs.declared.maps.Map4.{Map4}
 
 -- ---- covariance
 
@@ -66,21 +59,3 @@ pub record Permutes (k : ℕ) (p : ℕ → Signed) (q : Mat) : Type 0 where
 -- v under such a map, rows and then columns
 abbrev pub permuted : (ℕ → Signed) → (ℕ → ℕ → ℤ) → ℕ → ℕ → ℤ
 permuted p v i j = signed (p j .minus) (signed (p i .minus) (v (p i .at) (p j .at)))
-
--- ---- the maps of the code by row and column
-
-abbrev pub real2At : Real2 → ℕ → Float
-real2At r j = getD (r .x0 ∷ r .x1 ∷ []) j nan
-
-abbrev pub map2At : Map2 → Mat
-map2At q zero = real2At (q .r0)
-map2At q (suc i) = real2At (q .r1)
-
-abbrev pub real4At : Real4 → ℕ → Float
-real4At r j = getD (r .x0 ∷ r .x1 ∷ r .x2 ∷ r .x3 ∷ []) j nan
-
-abbrev pub map4At : Map4 → Mat
-map4At q zero = real4At (q .r0)
-map4At q (suc zero) = real4At (q .r1)
-map4At q (suc (suc zero)) = real4At (q .r2)
-map4At q (suc (suc (suc i))) = real4At (q .r3)

@@ -11,6 +11,7 @@ use native.Mathlib.Omega.{arith}
 use lib.Dec.{eqb, ltb}
 use lib.ListN.{length, length-append}
 use borrow.Author.Tests.{eq-eqb, ne-eqb, eqb-true}
+use Rattle.laws.specs.Lists.{All}
 use Rattle.laws.proofs.Cases.{lt-or-le, eq-or-ne}
 use Rattle.order.specs.declared.keys.Key.{Key}
 use Rattle.order.specs.declared.keys.Link.{Link}
@@ -119,8 +120,7 @@ found (got q qs) = true
 
 module _ (K : ℕ → Key) where
   unfoldable pub EachKeyed : List (List ℕ) → Type 0
-  EachKeyed [] = Unit {0}
-  EachKeyed (p ∷ ps) = Keyed K p × EachKeyed ps
+  EachKeyed ps = All (Keyed K) ps
 
   -- a wire that is there: its key names wires that are there, and a place that is
   pub each-on : (ps : List (List ℕ)) → EachKeyed ps → (w : ℕ) → 0 < times w (flat ps)

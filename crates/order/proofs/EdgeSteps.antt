@@ -8,6 +8,7 @@ use Prim.Native.Nat.{ℕ, _+_, _-_, _≤_, _<_}
 use native.Mathlib.Omega.{arith}
 use borrow.Author.Tests.{lt-ltb, le-ltb, eq-eqb, ne-eqb}
 use Rattle.laws.specs.Views.{upFrom}
+use Rattle.laws.proofs.Lists.{all-at}
 use Rattle.work.specs.Marks.{Only, Records}
 use Rattle.work.specs.Columns.{matchItem}
 use Rattle.work.proofs.Records.{only-same, only-trans}
@@ -16,7 +17,7 @@ use Rattle.order.specs.Weights.{Pair, pairOf, edge, joinsOf, heavierOf, 
 use Rattle.order.specs.Pairs.{Item, itemAt, pairsOf}
 use Rattle.order.specs.Slice.{limit, edgeColumns, edgeAt, putEdge, edgesIn, Light, Added, countItemOf, Counted, Tallied, Inserted, Sorted}
 use Rattle.order.proofs.Triples.{edge-here, edge-away, edge-only}
-use Rattle.order.proofs.Counting.{added-hit, added-new, each-at, AtMost, tally-light}
+use Rattle.order.proofs.Counting.{added-hit, added-new, AtMost, tally-light}
 use Rattle.order.proofs.Sums.{up-all, counted-none, counted-more, sorted-none, sorted-more}
 use Rattle.order.proofs.Sorting.{Sinks, sinks-start, sinks-more, sinks-end}
 
@@ -80,7 +81,7 @@ items-stay us vs o i = item-of (o .same i 0 (omega arith) refl) (o .same i 1 (om
 -- weights stay below the number of items counted
 pub tally-grows : (us vs : List ℕ) (i g m : ℕ) → i ≤ g → g - i < limit → edgesIn vs m ≡ tallyOf (pairsOf (upFrom (itemAt us) i (g - i))) → Light vs m
 tally-grows us vs i g m h b e j l =
-    let o : edgeAt vs j .weight ≤ g - i = each-at (AtMost (g - i)) (edgeAt vs) 0 m j (rw e (tally-light (itemAt us) i (g - i))) (omega arith)
+    let o : edgeAt vs j .weight ≤ g - i = all-at (AtMost (g - i)) (edgeAt vs) 0 m j (rw e (tally-light (itemAt us) i (g - i))) (omega arith)
     (omega arith) in
     omega arith
 

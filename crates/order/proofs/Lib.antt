@@ -8,6 +8,7 @@ pub mod Joins
 pub mod Covers
 pub mod Arranged
 pub mod Triples
+pub mod EdgeWires
 pub mod Counting
 pub mod Sorting
 pub mod Sums

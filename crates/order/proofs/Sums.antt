@@ -5,6 +5,7 @@ use mathlib.Core.List.{List, [], _∷_}
 use Prim.Native.Nat.{ℕ, _+_, _-_, _≤_, _<_}
 use native.Mathlib.Omega.{arith}
 use borrow.Author.Tests.{eq-eqb, ne-eqb}
+use Rattle.laws.specs.Lists.{All}
 use Rattle.laws.specs.Views.{upFrom, listOf}
 use Rattle.laws.proofs.Views.{up-head}
 use Rattle.order.specs.declared.edges.Edge.{Edge}
@@ -13,7 +14,8 @@ use Rattle.order.specs.Pairs.{Item, pairsOf}
 use Rattle.order.specs.Slice.{countItemOf}
 use Rattle.order.specs.Arrangement.{absDiffOf, besideOf}
 use Rattle.order.specs.Choice.{coversOf, coveredBy}
-use Rattle.order.proofs.Counting.{Each, Below, counted-cons}
+use Rattle.order.proofs.EdgeWires.{OnEdge, Below}
+use Rattle.order.proofs.Counting.{counted-cons}
 
 -- ---- from the last on
 
@@ -93,9 +95,9 @@ module _ (pos : ℕ → ℕ) where
   covered-more E i m s v h g e f = rw (up-prev E i m h g) (omega (arith, e, f))
 
 -- modes that agree on the wires of the edges
-pub covered-agree : (n : ℕ) (pos pos′ : ℕ → ℕ) → ((w : ℕ) → w < n → pos w ≡ pos′ w) → (es : List Edge) → Each (Below n) es
+pub covered-agree : (n : ℕ) (pos pos′ : ℕ → ℕ) → ((w : ℕ) → w < n → pos w ≡ pos′ w) → (es : List Edge) → All (OnEdge (Below n)) es
     → coveredBy es pos ≡ coveredBy es pos′
-unfolding coveredBy Each
+unfolding coveredBy
 covered-agree n pos pos′ h [] b = refl
 covered-agree n pos pos′ h (e ∷ es) b =
     ap₂ _+_ (ap₂ (λ (i j : ℕ). cond (besideOf i j) (e .weight) 0) (h (e .lo) (b .0 .0)) (h (e .hi) (b .0 .1))) (covered-agree n pos pos′ h es (b .1))

@@ -1,12 +1,9 @@
 // Kernels on a square matrix in lent work, for the queries and samples of a state: the Pfaffian, and one shot of a sample.
 // Each leaves its matrix as work and anything after it as it was.
 
-pub mod entries; // entries.rt: an entry, read and written
 pub mod pairs; // pairs.rt: the Pfaffian
 pub mod shots; // shots.rt: one shot
 
-pub use entries::entry;
-pub use entries::put;
 pub use pairs::pfaffian;
 pub use shots::Words;
 pub use shots::shot;

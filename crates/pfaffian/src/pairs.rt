@@ -11,9 +11,9 @@ ghost use Rattle.laws.specs.Matrix.{at, matrix, Inside, Holds};
 ghost use Rattle.pfaffian.specs.Work.{Kept};
 ghost use Rattle.pfaffian.specs.Pfaffian.{pivotOf, less, pfaffianOf};
 ghost use Rattle.pfaffian.specs.Turns.{brought, scaled, sweptRow, swept, Corner};
-use super::entries::entry;
-use super::entries::put;
 use num::abs;
+use real::entry;
+use real::put;
 
 // What the pivot search found: the largest absolute value of a row, and its column.
 pub struct Found {

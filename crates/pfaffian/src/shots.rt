@@ -10,9 +10,9 @@ ghost use Rattle.laws.specs.Matrix.{at, Inside, Holds};
 ghost use Rattle.pfaffian.specs.Work.{Kept};
 ghost use Rattle.pfaffian.specs.Shot.{maxModes, drawnOf, spinOf, drawFrom, modeOf, bit, qubitBit, wordOf, shotOf};
 ghost use Rattle.pfaffian.specs.Turns.{laid, measuredRow, measured, laidPair, Measures, ShotListed};
-use super::entries::entry;
-use super::entries::put;
 use num::clamp;
+use real::entry;
+use real::put;
 
 const MODES: usize = 128; // a shot is two words
 

@@ -11,8 +11,6 @@ ghost use Rattle.queries.specs.Lists.{badPlace, oddMode, conflictsOf, bi
 ghost use Rattle.queries.specs.Inner.{Marked, markAt, Listed};
 use state::mode_at;
 
-pub const MAX_QUBITS: usize = 128;
-
 // The modes of odd count are marked 1. The answer is the place of the first qubit that is not below n, or the list's length; the marks
 // are those of the places before it.
 pub fn mark_odd(n: usize, modes: &[u16], qubits: &[usize], marks: &mut [u8]) -> usize

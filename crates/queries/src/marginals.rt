@@ -9,13 +9,13 @@ ghost use Rattle.queries.specs.Lists.{oddly};
 ghost use Rattle.queries.specs.Marginals.{isOne, signOf, atLeastZeroOf};
 ghost use Rattle.queries.specs.Calls.{covarianceOf, stoppedOf, markedAnswer, markedWork, marginalProbabilityOf, marginalProbabilityWork};
 ghost use Rattle.queries.specs.Inner.{markAt, Ready};
-use super::lists::MAX_QUBITS;
 use super::lists::bits_ok;
 use super::lists::list_modes;
 use super::lists::note_bits;
 use super::matrices::ask;
 use super::matrices::pfaffian_cleared;
 use state::Answer;
+use state::MAX_QUBITS;
 use state::Refusal;
 use state::state_ok;
 

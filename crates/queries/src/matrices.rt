@@ -13,8 +13,8 @@ ghost use Rattle.queries.specs.Products.{indexOf, restricted};
 ghost use Rattle.queries.specs.Marginals.{halfSpinOf, askedMatrix};
 ghost use Rattle.queries.specs.Calls.{covarianceOf, cleared};
 ghost use Rattle.queries.specs.Inner.{markAt, Ready, Modes, rowLaid, pairShifted, pairsShifted};
-use pfaffian::entry;
-use pfaffian::put;
+use real::entry;
+use real::put;
 use state::covariance;
 use state::vacuum::fill;
 

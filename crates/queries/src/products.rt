@@ -8,12 +8,12 @@ ghost use Rattle.queries.specs.Lists.{notedModes};
 ghost use Rattle.queries.specs.Calls.{covarianceOf, productAnswer, productWork};
 ghost use Rattle.queries.specs.Calls.{expectationZProductOf, expectationZProductWork, zCorrelationOf, zCorrelationWork};
 ghost use Rattle.queries.specs.Inner.{markAt, Ready};
-use super::lists::MAX_QUBITS;
 use super::lists::list_modes;
 use super::lists::mark_odd;
 use super::matrices::pfaffian_cleared;
 use super::matrices::restrict;
 use state::Answer;
+use state::MAX_QUBITS;
 use state::Refusal;
 use state::state_ok;
 

@@ -7,6 +7,7 @@ use mathlib.Core.List.{List, [], _∷_}
 use Prim.Native.Nat.{ℕ}
 use lib.Dec.{eqb}
 use Rattle.laws.specs.Tables.{update}
+use Rattle.laws.specs.Lists.{All}
 use Rattle.laws.proofs.Cases.{eq-or-ne}
 use Rattle.laws.proofs.Tables.{update-here, update-away, two-first, two-second, two-away, by-two}
 use Rattle.gate.specs.Matrix.{id2, mul2Of, mul4Of, kronOf, mat4SwapQubitsOf}
@@ -19,7 +20,7 @@ use Rattle.monomial.proofs.Diagonals.{diagonal}
 use Rattle.fuse.specs.Events.{Event, gone, one, two, three}
 use Rattle.fuse.specs.Fuse.{fused}
 use Rattle.fuse.specs.Compress.{compressed}
-use Rattle.register.specs.Runs.{All, Acts, run, Ok}
+use Rattle.register.specs.Runs.{Acts, run, Ok}
 use Rattle.register.specs.Bits.{turnedOf, firstOf, secondOf, turn1, turn2, eventsRun, changes}
 use Rattle.register.specs.Blocks.{Turn, Block, Closed}
 use Rattle.register.proofs.Fusing.{fused-keeps}

@@ -7,12 +7,13 @@ use Prim.Native.Nat.{ℕ}
 use lib.Dec.{eqb}
 use borrow.Author.Tests.{eqb-true}
 use Rattle.laws.specs.Views.{until, from}
+use Rattle.laws.specs.Lists.{All}
+use Rattle.laws.proofs.Lists.{all-both, all-append, whole, until-all, from-all, until-fails, Heads, from-heads}
 use Rattle.gate.specs.Matrix.{mul2Of}
 use Rattle.gate.specs.declared.matrix.Mat2.{Mat2}
 use Rattle.fuse.specs.Events.{Event, gone, one, two, three, touches}
 use Rattle.fuse.specs.Compress.{diagonal2Of, press, compressStep, compressed}
-use Rattle.register.specs.Runs.{All, Monoid, Acts, ev, run, Ok, Keeps}
-use Rattle.register.proofs.Lists.{all-both, all-append, whole, until-all, from-all, until-fails, Heads, from-heads}
+use Rattle.register.specs.Runs.{Monoid, Acts, ev, run, Ok, Keeps}
 use Rattle.register.proofs.Fusing.{none-of, fails, Off, first-away, passes, run-append}
 
 or-false : (t : Bool) → (t || false) ≡ true → t ≡ true

@@ -8,13 +8,14 @@ use Prim.Native.Nat.{ℕ}
 use lib.Dec.{eqb}
 use borrow.Author.Tests.{eqb-true, eqb-false}
 use Rattle.laws.specs.Views.{until, from}
+use Rattle.laws.specs.Lists.{All}
+use Rattle.laws.proofs.Lists.{all-map, all-append, whole, until-all, from-all, until-fails}
 use Rattle.gate.specs.Matrix.{id2, mul2Of, mul4Of, kronOf, mat4SwapQubitsOf}
 use Rattle.gate.specs.declared.matrix.Mat2.{Mat2}
 use Rattle.gate.specs.declared.matrix.Mat4.{Mat4}
 use Rattle.fuse.specs.Events.{Event, gone, one, two, three, oneOn, meets, product, clear}
 use Rattle.fuse.specs.Fuse.{grown, joined, place, fuseStep, fused}
-use Rattle.register.specs.Runs.{All, Monoid, Acts, ev, run, Ok, Keeps}
-use Rattle.register.proofs.Lists.{all-map, all-append, whole, until-all, from-all, until-fails}
+use Rattle.register.specs.Runs.{Monoid, Acts, ev, run, Ok, Keeps}
 
 -- no test of several passes
 pub none-of : (p q : Bool) → (p || q) ≡ false → (p ≡ false) × (q ≡ false)

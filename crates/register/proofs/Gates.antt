@@ -10,6 +10,7 @@ use lib.Dec.{T, eqb, leb}
 use lib.Ieee.Bits.{is-true}
 use lib.Ieee.Fits.{and-l, and-r}
 use borrow.Author.Tests.{leb-true, eqb-false, ne-eqb, not-true}
+use Rattle.laws.specs.Lists.{All}
 use Rattle.gate.specs.Table.{matrix2qOf}
 use Rattle.gate.specs.declared.matrix.Mat2.{Mat2}
 use Rattle.gate.specs.declared.matrix.Mat4.{Mat4}
@@ -22,7 +23,6 @@ use Rattle.monomial.proofs.Tests.{at-each}
 use Rattle.monomial.proofs.Gates.{code1-has, code1-turns, code2-has, code2-exchanges, code2-even}
 use Rattle.fuse.specs.Relabel.{swapCode}
 use Rattle.register.specs.Register.{registerOne, registerTwo, RegisterGate, exchanges}
-use Rattle.register.specs.Runs.{All}
 use Rattle.register.specs.Blocks.{EvenSum, GateIs}
 use Rattle.register.specs.Follows.{Beside, PlainGate}
 

@@ -11,7 +11,9 @@ use lib.ListN.{getD, take}
 use lib.Seq.{take-nil}
 use lib.Ieee.{Float}
 use Rattle.laws.specs.Views.{listOf, until}
+use Rattle.laws.specs.Lists.{All}
 use Rattle.laws.proofs.Views.{length-listOf, getD-listOf}
+use Rattle.laws.proofs.Lists.{all-map, all-onto}
 use Rattle.tape.specs.Good.{GoodGate}
 use Rattle.tape.specs.declared.gates.Gate.{Gate}
 use Rattle.work.specs.Columns.{matchItem, diagonalItem}
@@ -27,11 +29,9 @@ use Rattle.resolve.specs.Cuts.{ones, ahead}
 use Rattle.resolve.specs.Resolve.{Rest, none, opened, startOf}
 use Rattle.resolve.specs.Whole.{resolvedOf, Fused, fuseOf}
 use Rattle.register.specs.Register.{RegisterGate}
-use Rattle.register.specs.Runs.{All}
 use Rattle.register.specs.Bits.{turnedOf, eventsRun, itemsRun, zeros}
 use Rattle.register.specs.Blocks.{Turn, EvenSum, Pair, Places, GateIs, Rules, ItemIs, KindIs, matchgate, phaseless, interacting, neither}
 use Rattle.register.specs.Follows.{Follows, anyPair, Beside, PlainGate, GaussianItem, Plain}
-use Rattle.register.proofs.Lists.{all-map, all-onto}
 use Rattle.register.proofs.Readings.{turn-id, turned-id}
 use Rattle.register.proofs.Changes.{passes-keep}
 use Rattle.register.proofs.Permuting.{identity-places}

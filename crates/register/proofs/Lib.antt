@@ -1,5 +1,4 @@
 -- The register of a tape and the runs of its events and items. Assumes nothing.
-pub mod Lists
 pub mod Fusing
 pub mod Compressing
 pub mod Readings

@@ -8,6 +8,7 @@ use Prim.Native.Nat.{ℕ, _<_}
 use lib.Dec.{eqb}
 use borrow.Author.Tests.{eqb-true}
 use Rattle.laws.specs.Tables.{update, exchanged, exchange}
+use Rattle.laws.specs.Lists.{All}
 use Rattle.laws.proofs.Cases.{eq-or-ne}
 use Rattle.laws.proofs.Tables.{update-here, update-away, two-first, two-second, exchanged-below, exchange-first, exchange-second, exchange-away}
 use Rattle.tape.specs.declared.gates.Gate.{Gate}
@@ -17,7 +18,6 @@ use Rattle.monomial.specs.Monomial.{flip, Mono4}
 use Rattle.fuse.specs.Events.{Event, gone, one, two}
 use Rattle.fuse.specs.Relabel.{swapCode, Labelled, put, swapped, slotOf, label, labelled, unlabelled}
 use Rattle.register.specs.Register.{turns, registerStep, registerFrom, registerBits}
-use Rattle.register.specs.Runs.{All}
 use Rattle.register.specs.Bits.{turnedOf, firstOf, secondOf, turn2, eventsRun, zeros}
 use Rattle.register.specs.Blocks.{Closed, GateIs, Pair, Places}
 use Rattle.register.proofs.Readings.{turned-is, first-is, second-is}

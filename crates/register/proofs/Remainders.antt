@@ -9,12 +9,12 @@ use native.Mathlib.Omega.{arith}
 use lib.ListN.{getD}
 use lib.Ieee.{Float}
 use Rattle.laws.specs.Tables.{update}
+use Rattle.laws.specs.Lists.{All}
 use Rattle.laws.proofs.Cases.{eq-or-ne}
 use Rattle.laws.proofs.Tables.{update-here, update-away}
 use Rattle.fuse.specs.Events.{Event}
 use Rattle.resolve.specs.Items.{Item}
 use Rattle.resolve.specs.Resolve.{Rest, none, rest, opened, Resolved, restItem, withRests}
-use Rattle.register.specs.Runs.{All}
 use Rattle.register.specs.Bits.{turnedOf, itemsRun, zeros}
 use Rattle.register.specs.Blocks.{Turn, Rules}
 use Rattle.register.proofs.Readings.{turned-id}

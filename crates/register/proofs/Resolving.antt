@@ -12,6 +12,7 @@ use lib.Seq.{getD-set-same, getD-set-other, take-nil}
 use lib.Ieee.{Float}
 use borrow.Author.Tests.{eqb-true, eqb-false}
 use Rattle.laws.specs.Slices.{traded}
+use Rattle.laws.specs.Lists.{All}
 use Rattle.laws.proofs.Cases.{eq-or-ne}
 use Rattle.laws.proofs.Tables.{update-here, update-away, two-first, two-second, exchanged-first, exchanged-second, exchanged-away}
 use Rattle.gate.specs.Matrix.{mul4Of, kronOf}
@@ -24,7 +25,6 @@ use Rattle.resolve.specs.Items.{Item}
 use Rattle.resolve.specs.Cuts.{ahead, prefixOf}
 use Rattle.resolve.specs.Resolve.{Rest, none, opened, longer, Resolved, lengthened, promised, emptied, renamed, added, passed, itemOf, settled}
 use Rattle.resolve.specs.Resolve.{candidates, chosen, resolveStep, resolved}
-use Rattle.register.specs.Runs.{All}
 use Rattle.register.specs.Bits.{turnedOf, firstOf, secondOf, turn1, turn2, eventBits, itemsRun, zeros}
 use Rattle.register.specs.Blocks.{Turn, Block, Pair, Places, ClassIs, Rules, ItemIs}
 use Rattle.register.proofs.Readings.{turned-id, turn-id, turn-mul, turned-mul}

@@ -8,15 +8,15 @@ use lib.Dec.{eqb}
 use lib.ListN.{take}
 use borrow.Author.Tests.{eq-eqb, ne-eqb}
 use Rattle.laws.specs.Views.{until}
+use Rattle.laws.specs.Lists.{All}
+use Rattle.laws.proofs.Lists.{until-all}
 use Rattle.gate.specs.Matrix.{id2, mul2Of, timeStepOf, timeProductFrom, timeProductOf}
 use Rattle.gate.specs.declared.matrix.Mat2.{Mat2}
 use Rattle.gate.specs.declared.matrix.Mat4.{Mat4}
 use Rattle.fuse.specs.Events.{Event, gone, one, two, three, blockOn}
 use Rattle.resolve.specs.Cuts.{ones, ahead, prefixOf}
-use Rattle.register.specs.Runs.{All}
 use Rattle.register.specs.Bits.{turnedOf}
 use Rattle.register.specs.Blocks.{Turn}
-use Rattle.register.proofs.Lists.{until-all}
 use Rattle.register.proofs.Readings.{turn-id, turned-id, turn-mul, turned-mul}
 
 -- ---- the gates of a tail, the oldest first

@@ -6,6 +6,7 @@ use mathlib.Core.Bool.{Bool}
 use mathlib.Core.List.{List}
 use Prim.Native.Nat.{ℕ, _+_, _<_}
 use lib.ListN.{getD}
+use Rattle.laws.specs.Lists.{All}
 use Rattle.tape.specs.declared.gates.Gate.{Gate}
 use Rattle.tape.specs.declared.gates.Gate.the-variants.{One, Two, Three}
 use Rattle.work.specs.Columns.{matchItem, diagonalItem}
@@ -14,7 +15,6 @@ use Rattle.fuse.specs.Relabel.{swapCode, Labelled, slotOf}
 use Rattle.resolve.specs.Items.{Item, one, two, opaque}
 use Rattle.resolve.specs.Whole.{Fused}
 use Rattle.register.specs.Register.{registerBits}
-use Rattle.register.specs.Runs.{All}
 use Rattle.register.specs.Bits.{itemsRun, zeros}
 use Rattle.register.specs.Blocks.{Turn, Block, Places, ItemIs}
 

@@ -8,10 +8,10 @@ use gate::Row4;
 use libc::STDOUT_FILENO;
 use majorana::Class2;
 use majorana::Kind2;
-use majorana::Map2;
-use majorana::Map4;
-use majorana::Real4;
 use majorana::Rotation;
+use real::Map2;
+use real::Map4;
+use real::Real4;
 use stored::Tally;
 
 // Tags of records.

@@ -10,6 +10,7 @@ ghost use Rattle.tape.specs.Cursor.{Cursor};
 use libc::STDOUT_FILENO;
 use tape::Checked;
 use tape::Gate;
+use tape::HEADER_LENGTH;
 
 // Tags of records.
 const TAPE: usize = 1;
@@ -21,8 +22,6 @@ const GATES: usize = 3;
 const CHECK_SIZE: usize = 18;
 
 const GATE_SIZE: usize = 10;
-
-const FIRST: usize = 20; // the offset after the header
 
 fn word(s: &[u8], at: usize) -> usize
     requires { ⌜ at + 2 ≤ length (now s) ⌝ }
@@ -97,7 +96,7 @@ fn walk_agrees(t: &[u8], gates: usize, s: &[u8]) -> bool
     requires { ⌜ gates ≡ length (gatesOf (now t)) ⌝ }
 {
     let mut k: usize = 0;
-    let mut at = FIRST;
+    let mut at = HEADER_LENGTH;
     let mut from: usize = 0;
     while k < gates {
         if s.len() - from < GATE_SIZE {

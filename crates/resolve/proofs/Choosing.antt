@@ -7,6 +7,7 @@ use Prim.Native.Nat.{ℕ, zero, suc, _+_, _-_, _≤_, _<_}
 use native.Mathlib.Omega.{arith}
 use native.Mathlib.Numerals.{add-one}
 use lib.Ieee.{Float}
+use Rattle.laws.specs.Lists.{All}
 use Rattle.laws.specs.Views.{upFrom}
 use Rattle.laws.proofs.Views.{up-head}
 use Rattle.gate.specs.Matrix.{kronOf, mul4Of}
@@ -86,8 +87,7 @@ module _ (relabel : Bool) (tol : Float) (base : Mat4) (pa pb : ℕ → Mat2) whe
 
 -- every number of a list is at most m
 abbrev pub UpTo : ℕ → List ℕ → Type 0
-UpTo m [] = Unit {0}
-UpTo m (t ∷ ts) = (t ≤ m) × UpTo m ts
+UpTo m = All (λ t. t ≤ m)
 
 keep-up-to : (m : ℕ) (p : ℕ → Bool) (k n : ℕ) → k + n ≤ m + 1 → UpTo m (keep p (upFrom (λ t. t) k n))
 unfolding keep upFrom

@@ -3,22 +3,21 @@
 use mathlib.Core.Path.{_≡_, refl, sym, ap, _∙_}
 use mathlib.Core.Bool.{Bool, true, false, cond}
 use mathlib.Core.List.{List, [], _∷_, _++_}
-use Prim.Native.Nat.{ℕ, zero, suc, _+_, _*_, _-_, _≤_, _<_}
+use Prim.Native.Nat.{ℕ, zero, suc, _+_, _-_, _≤_, _<_}
 use native.Mathlib.Omega.{arith}
 use lib.Dec.{eqb}
 use lib.ListN.{length, getD, length-append}
 use lib.Ieee.{Float}
+use Rattle.laws.specs.Lists.{All}
 use Rattle.laws.specs.Slices.{traded}
 use Rattle.laws.specs.Tables.{exchanged}
 use Rattle.laws.specs.Views.{listOf}
 use Rattle.laws.proofs.Tables.{length-traded, getD-traded, exchanged-below, exchanged-twice}
 use Rattle.laws.proofs.Views.{length-listOf, getD-listOf}
-use Rattle.gate.specs.declared.matrix.Mat2.{Mat2}
 use Rattle.fuse.specs.Events.{Event, gone, one, two, three}
 use Rattle.resolve.specs.declared.choose.Choice.{Choice}
-use Rattle.resolve.specs.Items as Items
-use Rattle.resolve.specs.Items.{Item}
-use Rattle.resolve.specs.Resolve.{Rest, none, rest, Resolved, lengthened, promised, emptied, renamed, added, passed, itemOf, settled, closed, candidates, chosen, resolveStep, resolved, restItem, withRests, startOf}
+use Rattle.resolve.specs.Items.{ItemsBelow}
+use Rattle.resolve.specs.Resolve.{Rest, none, rest, Resolved, lengthened, promised, emptied, renamed, added, passed, itemOf, settled, closed, candidates, chosen, resolved, restItem, withRests, startOf}
 
 -- ---- the number of items
 
@@ -74,20 +73,16 @@ items-few relabel tol n swaps es =
 
 -- ---- wires
 
--- every slot of the events is below n
-abbrev pub SlotsBelow : ℕ → List Event → Type 0
-SlotsBelow n [] = Unit {0}
-SlotsBelow n (gone ∷ es) = SlotsBelow n es
-SlotsBelow n (one w m ∷ es) = (w < n) × SlotsBelow n es
-SlotsBelow n (two a b u ∷ es) = (a < n) × (b < n) × SlotsBelow n es
-SlotsBelow n (three a b c ∷ es) = (a < n) × (b < n) × (c < n) × SlotsBelow n es
+-- the slots of an event are below n
+abbrev pub EventBelow : ℕ → Event → Type 0
+EventBelow n gone = Unit {0}
+EventBelow n (one w m) = w < n
+EventBelow n (two a b u) = (a < n) × (b < n)
+EventBelow n (three a b c) = (a < n) × (b < n) × (c < n)
 
--- every wire of the items is
-abbrev pub WiresBelow : ℕ → List Item → Type 0
-WiresBelow n [] = Unit {0}
-WiresBelow n (Items.one w m ∷ xs) = (w < n) × WiresBelow n xs
-WiresBelow n (Items.two k a b r v ∷ xs) = (a < n) × (b < n) × WiresBelow n xs
-WiresBelow n (Items.opaque ∷ xs) = WiresBelow n xs
+-- so are those of each event of a list
+abbrev pub EventsBelow : ℕ → List Event → Type 0
+EventsBelow n = All (EventBelow n)
 
 -- n wires, each below n, no wire twice
 pub record Permutation (n : ℕ) (l : List ℕ) : Type 0 where
@@ -116,38 +111,38 @@ traded-permutation n a b l la lb p = record {
 
 pub record Wired (n : ℕ) (r : Resolved) : Type 0 where
   pub content : Permutation n (r .content)
-  pub items : WiresBelow n (r .items)
+  pub items : ItemsBelow n (r .items)
 
 module _ (relabel : Bool) (tol : Float) (n : ℕ) where
-  pub resolved-wired : (es : List Event) (r : Resolved) → SlotsBelow n es → Wired n r → Wired n (resolved relabel tol es r)
+  pub resolved-wired : (es : List Event) (r : Resolved) → EventsBelow n es → Wired n r → Wired n (resolved relabel tol es r)
   unfolding resolved
   resolved-wired [] r s w = w
-  resolved-wired (gone ∷ es) r s w = resolved-wired es r s w
+  resolved-wired (gone ∷ es) r s w = resolved-wired es r (s .1) w
   resolved-wired (one v m ∷ es) r s w = resolved-wired es (passed v m r) (s .1) (by (eqb (getD (r .splits) v 0) 0))
     where
       by : (b : Bool) → Wired n (cond b (lengthened v m r) (promised v (getD (r .splits) v 0 - 1) r))
       by true = record { content = w .content; items = w .items }
       by false = record { content = w .content; items = w .items }
   resolved-wired (two a b u ∷ es) r s w =
-      resolved-wired es (settled a b (candidates a b es) (chosen relabel tol a b u es r .best) (chosen relabel tol a b u es r .angled) r) (s .2)
+      resolved-wired es (settled a b (candidates a b es) (chosen relabel tol a b u es r .best) (chosen relabel tol a b u es r .angled) r) (s .1)
       (by (candidates a b es) (chosen relabel tol a b u es r .best) (chosen relabel tol a b u es r .angled) (chosen relabel tol a b u es r .best .class .swap))
     where
       by : (k : ℕ) (x : Choice) (y c : Bool)
           → Wired n (cond c (added (itemOf a b x r) 1 k y (renamed a b (emptied b (x .kb) (emptied a (x .ka) r)))) (added (itemOf a b x r) 0 k y (emptied b (x .kb) (emptied a (x .ka) r))))
       by k x y true = record {
-        content = traded-permutation n a b (r .content) (s .0) (s .1) (w .content);
-        items = (w .content .below a (s .0), w .content .below b (s .1), w .items);
+        content = traded-permutation n a b (r .content) (s .0 .0) (s .0 .1) (w .content);
+        items = ((w .content .below a (s .0 .0), w .content .below b (s .0 .1)), w .items);
       }
-      by k x y false = record { content = w .content; items = (w .content .below a (s .0), w .content .below b (s .1), w .items) }
-  resolved-wired (three a b c ∷ es) r s w = resolved-wired es (closed a b c r) (s .3) (record { content = w .content; items = w .items })
+      by k x y false = record { content = w .content; items = ((w .content .below a (s .0 .0), w .content .below b (s .0 .1)), w .items) }
+  resolved-wired (three a b c ∷ es) r s w = resolved-wired es (closed a b c r) (s .1) (record { content = w .content; items = (tt, w .items) })
 
   -- the remainders are on wires of the content
-  pub rests-wired : (r : Resolved) (k : ℕ) → k ≤ n → Wired n r → WiresBelow n (withRests r k)
+  pub rests-wired : (r : Resolved) (k : ℕ) → k ≤ n → Wired n r → ItemsBelow n (withRests r k)
   unfolding withRests
   rests-wired r zero h w = w .items
   rests-wired r (suc k) h w = by (getD (r .rests) k none) (rests-wired r k (omega arith) w)
     where
-      by : (x : Rest) → WiresBelow n (withRests r k) → WiresBelow n (restItem (getD (r .content) k 0) x ++ withRests r k)
+      by : (x : Rest) → ItemsBelow n (withRests r k) → ItemsBelow n (restItem (getD (r .content) k 0) x ++ withRests r k)
       by none i = i
       by (rest m) i = (w .content .below k (omega arith), i)
 

@@ -1,8 +1,9 @@
 -- The items (000, `Item`): fused, classified blocks in terms of wires. Of a two-qubit item's kind a number is kept, `matchItem` to `neitherItem`, as in
 -- the lent work; whether the phase counts as none is part of it. Assumes nothing.
 use mathlib.Core.List.{List, [], _∷_, _++_}
-use Prim.Native.Nat.{ℕ, zero, suc}
+use Prim.Native.Nat.{ℕ, zero, suc, _<_}
 use lib.Ieee.{Float}
+use Rattle.laws.specs.Lists.{All}
 use Rattle.gate.specs.declared.matrix.Mat2.{Mat2}
 use Rattle.gate.specs.declared.matrix.Mat4.{Mat4}
 use Rattle.work.specs.Columns.{matchItem, diagonalItem, interactionItem, neitherItem}
@@ -27,3 +28,13 @@ kindOf (NonGaussian r) = neitherItem
 unfoldable pub newestFirst : (ℕ → List Item) → ℕ → List Item
 newestFirst e zero = []
 newestFirst e (suc n) = e n ++ newestFirst e n
+
+-- the wires of an item are below n
+abbrev pub ItemBelow : ℕ → Item → Type 0
+ItemBelow n (one w u) = w < n
+ItemBelow n (two k a b r v) = (a < n) × (b < n)
+ItemBelow n opaque = Unit {0}
+
+-- so are those of each item of a list
+abbrev pub ItemsBelow : ℕ → List Item → Type 0
+ItemsBelow n = All (ItemBelow n)

@@ -9,13 +9,13 @@ use lib.Dec.{eqb, lit<}
 use lib.ListN.{length}
 use lib.Ieee.{Float}
 use Rattle.laws.specs.Zeros.{nz}
+use Rattle.real.specs.Maps.{local2, local4}
+use Rattle.real.specs.declared.maps.Map2.{Map2}
+use Rattle.real.specs.declared.maps.Map4.{Map4}
 use Rattle.state.specs.Bounds.{dimOf, statePlaces}
 use Rattle.state.specs.State.{State, stateAt, stored, vacuum}
-use Rattle.state.specs.Maps.{local2, local4}
 use Rattle.state.specs.Det.{odd}
 use Rattle.state.specs.Operation.{effect, Fits}
-use Rattle.state.specs.declared.maps.Map2.{Map2}
-use Rattle.state.specs.declared.maps.Map4.{Map4}
 use Rattle.state.proofs.Stored.{stored-is}
 use Rattle.signs.specs.Paulis.{Phase, i3, sgn, Str, times, signed, mul, identity}
 use Rattle.signs.specs.Blocks.{Block₁, Block, on₁, on}

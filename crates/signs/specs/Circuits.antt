@@ -6,11 +6,12 @@ use mathlib.Core.List.{List, [], _∷_}
 use Prim.Native.Nat.{ℕ, _<_}
 use lib.Dec.{eqb}
 use lib.Ieee.{Float}
+use Rattle.laws.specs.Lists.{All}
 use Rattle.laws.specs.Zeros.{+0, +1, sg, nz}
-use Rattle.state.specs.Maps.{entry2, entry4}
+use Rattle.real.specs.Maps.{entry2, entry4}
+use Rattle.real.specs.declared.maps.Map2.{Map2}
+use Rattle.real.specs.declared.maps.Map4.{Map4}
 use Rattle.state.specs.Operation.{Fits}
-use Rattle.state.specs.declared.maps.Map2.{Map2}
-use Rattle.state.specs.declared.maps.Map4.{Map4}
 use Rattle.state.specs.declared.operation.Unit.{Unit as Angle}
 use Rattle.state.specs.declared.operation.Operation.{Operation}
 use Rattle.state.specs.declared.operation.Operation.the-variants.{One, Two, Interaction}
@@ -58,5 +59,4 @@ pulled (x ∷ xs) s = acts x (pulled xs s)
 
 -- all modes are below n (question 17)
 abbrev pub Within : ℕ → List Item → Type 0
-Within n [] = Unit {0}
-Within n (x ∷ xs) = Fits n (operation x) × Within n xs
+Within n = All (λ x. Fits n (operation x))

@@ -8,14 +8,14 @@ use Rattle.num.specs.Order.{absOf}
 use Rattle.laws.specs.Views.{upFrom, seek}
 use Rattle.laws.specs.Zeros.{+0, +1}
 use Rattle.laws.specs.Maps.{Local, dot}
+use Rattle.real.specs.Maps.{local2, local4}
+use Rattle.real.specs.declared.maps.Map2.{Map2}
+use Rattle.real.specs.declared.maps.Real4.{Real4}
+use Rattle.real.specs.declared.maps.Map4.{Map4}
 use Rattle.state.specs.State.{vacuum, get}
-use Rattle.state.specs.Maps.{local2, local4}
 use Rattle.state.specs.Det.{betterOf, lastLargest, less, loweredAll, eliminated, det, odd}
 use Rattle.state.specs.Apply.{step}
 use Rattle.state.specs.Modes.{allBelow, isPermutation, qubitAt}
-use Rattle.state.specs.declared.maps.Real4.{Real4}
-use Rattle.state.specs.declared.maps.Map2.{Map2}
-use Rattle.state.specs.declared.maps.Map4.{Map4}
 
 -- ---- maps
 

@@ -12,10 +12,10 @@ use Rattle.laws.specs.Slices.{onPart}
 use Rattle.laws.specs.Matrix.{at, matrix}
 use Rattle.laws.specs.Maps.{Local, inside, rows, cols}
 use Rattle.laws.proofs.Maps.{rows-within, cols-within}
+use Rattle.real.specs.Maps.{local2, local4}
 use Rattle.state.specs.Bounds.{statePlaces, dimOf}
 use Rattle.state.specs.State.{State, stateAt, stored, Stored}
 use Rattle.state.specs.Apply.{later, unsettled, settled, calm, step}
-use Rattle.state.specs.Maps.{local2, local4}
 use Rattle.state.specs.Det.{odd}
 use Rattle.state.specs.Operation.{effect, applied, Fits}
 use Rattle.state.specs.Parts.{settledState}

@@ -6,10 +6,10 @@ use native.Mathlib.Nat.{add-zero}
 use lib.Ieee.{Float}
 use Rattle.laws.specs.Slices.{stores}
 use Rattle.laws.specs.Maps.{dot, columnTurn}
-use Rattle.state.specs.Maps.{row2, row4, local2, local4}
+use Rattle.real.specs.Maps.{row2, row4, local2, local4}
+use Rattle.real.specs.declared.maps.Map2.{Map2}
+use Rattle.real.specs.declared.maps.Map4.{Map4}
 use Rattle.state.specs.Parts.{under2, under4, column2Of, column4Of}
-use Rattle.state.specs.declared.maps.Map2.{Map2}
-use Rattle.state.specs.declared.maps.Map4.{Map4}
 
 module _ (s dim c : ℕ) (m : List Float) where
   pub turn2 : (q : Map2) → stores 2 (λ i. (s + i) * dim + c) (row2 (under2 q (column2Of dim m s c))) m ≡ columnTurn (local2 s q) dim c m

@@ -1,7 +1,6 @@
 -- What the contracts of `state` speak of. Definitions only.
 pub mod Bounds
 pub mod State
-pub mod Maps
 pub mod Det
 pub mod Apply
 pub mod Operation

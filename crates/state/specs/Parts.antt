@@ -10,15 +10,15 @@ use lib.Ieee.{Float, nan, neg, lt}
 use Rattle.laws.specs.Zeros.{+0, +1, sg}
 use Rattle.laws.specs.Matrix.{Mat, at, matrix}
 use Rattle.laws.specs.Maps.{Local, dot}
+use Rattle.real.specs.Maps.{row2, row4}
+use Rattle.real.specs.declared.maps.Real2.{Real2}
+use Rattle.real.specs.declared.maps.Map2.{Map2}
+use Rattle.real.specs.declared.maps.Real4.{Real4}
+use Rattle.real.specs.declared.maps.Map4.{Map4}
 use Rattle.state.specs.Bounds.{dimOf, statePlaces}
 use Rattle.state.specs.State.{State}
 use Rattle.state.specs.Apply.{unsettled, settled, calm}
-use Rattle.state.specs.Maps.{row2, row4}
 use Rattle.state.specs.Det.{Line}
-use Rattle.state.specs.declared.maps.Real2.{Real2}
-use Rattle.state.specs.declared.maps.Real4.{Real4}
-use Rattle.state.specs.declared.maps.Map2.{Map2}
-use Rattle.state.specs.declared.maps.Map4.{Map4}
 use Rattle.state.specs.declared.det.Real3.{Real3}
 
 -- ---- what they ask

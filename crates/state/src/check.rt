@@ -9,7 +9,7 @@ ghost use Rattle.state.specs.Modes.{modeAt, allBelow, modeOk, isPermutat
 ghost use Rattle.state.specs.Questions.{stateOk};
 ghost use Rattle.state.specs.Parts.{NoMarks};
 
-const MAX_QUBITS: usize = 128;
+pub const MAX_QUBITS: usize = 128;
 
 fn wide(x: u16) -> usize
     ensures { λ r. ⌜ r ≡ x ⌝ }

@@ -5,11 +5,11 @@ ghost use Prim.Native.Nat.{_+_, _*_};
 ghost use lib.ListN.{length};
 ghost use Rattle.laws.specs.Matrix.{at, matrix, Holds};
 ghost use Rattle.laws.specs.Maps.{dot, rotated, cols};
-ghost use Rattle.state.specs.Maps.{row2, row4, entry2, entry4, local2, local4};
-use super::maps::Map2;
-use super::maps::Map4;
-use super::maps::Real2;
-use super::maps::Real4;
+ghost use Rattle.real.specs.Maps.{row2, row4, entry2, entry4, local2, local4};
+use real::Map2;
+use real::Map4;
+use real::Real2;
+use real::Real4;
 
 // A row of a map times a vector.
 pub fn dot2(q: Real2, v: Real2) -> f64

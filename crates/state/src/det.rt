@@ -3,13 +3,13 @@
 
 ghost use mathlib.Core.Path.{_≡_};
 ghost use mathlib.Core.List.{[], _∷_};
-ghost use Rattle.state.specs.Maps.{entry2, entry4};
+ghost use Rattle.real.specs.Maps.{entry2, entry4};
 ghost use Rattle.state.specs.Det.{notBelow, betterOf, lowered, eliminated, pivoted, det};
 ghost use Rattle.state.specs.Parts.{line2, line3, line4};
-use super::maps::Map2;
-use super::maps::Map4;
-use super::maps::Real2;
-use super::maps::Real4;
+use real::Map2;
+use real::Map4;
+use real::Real2;
+use real::Real4;
 
 pub struct Real3 {
     pub x0: f64,

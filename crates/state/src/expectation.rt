@@ -9,7 +9,7 @@ use super::answer::Answer;
 use super::answer::Refusal;
 use super::check::mode_at;
 use super::check::state_ok;
-use super::grid::entry;
+use real::entry;
 
 // 001's `get`.
 pub fn covariance(state: &[f64], dim: usize, r: usize, c: usize) -> f64

@@ -8,9 +8,7 @@ mod check; // question 16
 mod columns; // the columns step of a map
 mod det; // the determinant of a map
 mod expectation; // an entry of the covariance, and Z of one qubit
-mod grid; // the entries of a matrix in a slice
 mod local; // a map applied to the state
-mod maps; // the maps
 mod operation; // operations, decoded from their places
 mod rows; // the rows step of a map
 mod signs; // the signs d settled and turned
@@ -24,6 +22,7 @@ pub use application::apply;
 pub use expectation::expectation_z;
 // for the crates above, which meet what they require
 pub use application::apply_places;
+pub use check::MAX_QUBITS;
 pub use check::mode_at;
 pub use check::state_ok;
 pub use expectation::covariance;

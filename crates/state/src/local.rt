@@ -2,8 +2,8 @@
 // indices, and where the determinant is below zero the sign of every later index turns.
 
 ghost use mathlib.Core.Path.{_≡_};
+ghost use Rattle.real.specs.Maps.{local2, local4};
 ghost use Rattle.state.specs.State.{stateAt, stored};
-ghost use Rattle.state.specs.Maps.{local2, local4};
 ghost use Rattle.state.specs.Det.{odd};
 ghost use Rattle.state.specs.Apply.{step};
 ghost use Rattle.state.specs.Parts.{HasBand};
@@ -11,13 +11,13 @@ use super::columns::columns2;
 use super::columns::columns4;
 use super::det::det2;
 use super::det::det4;
-use super::maps::Map2;
-use super::maps::Map4;
 use super::rows::rows2;
 use super::rows::rows4;
 use super::signs::settle;
 use super::signs::settle4;
 use super::signs::turn_from;
+use real::Map2;
+use real::Map4;
 
 pub fn apply_local2(state: &mut [f64], dim: usize, s: usize, q: Map2)
     requires { ⌜ HasBand (now state) dim s 2 ⌝ }

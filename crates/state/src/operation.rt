@@ -5,10 +5,10 @@ ghost use Prim.Native.Nat.{_+_, _≤_};
 ghost use lib.ListN.{length};
 ghost use Rattle.state.specs.Bounds.{opPlaces};
 ghost use Rattle.state.specs.Operation.{modeOf, real2Of, real4Of, map2Of, map4Of, interactionOf, decodeOf};
-use super::maps::Map2;
-use super::maps::Map4;
-use super::maps::Real2;
-use super::maps::Real4;
+use real::Map2;
+use real::Map4;
+use real::Real2;
+use real::Real4;
 
 const OP_PLACES: usize = 18; // places of an operation
 

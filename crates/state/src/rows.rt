@@ -5,16 +5,16 @@ ghost use Prim.Native.Nat.{_+_, _*_, _<_};
 ghost use Rattle.laws.specs.Slices.{stores};
 ghost use Rattle.laws.specs.Matrix.{at, matrix, Holds};
 ghost use Rattle.laws.specs.Maps.{rows};
-ghost use Rattle.state.specs.Maps.{row2, row4, local2, local4};
+ghost use Rattle.real.specs.Maps.{row2, row4, local2, local4};
 ghost use Rattle.state.specs.Parts.{under2, under4, column2Of, column4Of};
 use super::columns::dot2;
 use super::columns::dot4;
-use super::grid::entry;
-use super::grid::put;
-use super::maps::Map2;
-use super::maps::Map4;
-use super::maps::Real2;
-use super::maps::Real4;
+use real::Map2;
+use real::Map4;
+use real::Real2;
+use real::Real4;
+use real::entry;
+use real::put;
 
 // The vector v under the map.
 fn mapped2(q: Map2, v: Real2) -> Real2

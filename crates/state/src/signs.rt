@@ -12,8 +12,8 @@ ghost use Rattle.laws.specs.Matrix.{at, matrix, Inside};
 ghost use Rattle.state.specs.State.{stateAt, stored};
 ghost use Rattle.state.specs.Parts.{HasSign, HasBand, Below4, band, settledState};
 ghost use Rattle.state.specs.Parts.{rowNegated, settledRow, rowsSettled, settledEntry, partSettled, columnsSettled};
-use super::grid::entry;
-use super::grid::put;
+use real::entry;
+use real::put;
 
 fn negate(m: &mut [f64], dim: usize, r: usize, c: usize)
     requires { ⌜ Inside (now m) dim r c ⌝ }

@@ -9,7 +9,7 @@ ghost use Rattle.state.specs.Bounds.{dimOf};
 ghost use Rattle.state.specs.State.{stored};
 ghost use Rattle.state.specs.State as spec;
 ghost use Rattle.state.specs.Parts.{HasState, paired};
-use super::grid::put;
+use real::put;
 
 // The first n places are x.
 pub fn fill(v: &mut [f64], n: usize, x: f64)

@@ -12,6 +12,8 @@ mod check; // a whole tape
 mod labels; // the label query
 mod cursor; // a second pass over the gates
 
+pub use bounds::HEADER_LENGTH;
+pub use bounds::MAX_QUBITS;
 pub use check::Checked;
 pub use check::check_tape;
 pub use cursor::Place;

@@ -5,7 +5,8 @@ use native.Mathlib.Omega.{arith}
 use borrow.Author.Needs.{needs}
 use borrow.Author.Tests.{eq-eqb, ne-eqb}
 use Rattle.work.specs.Marks.{markAt}
-use Rattle.detect.specs.Records.{recordItem, ItemBelow}
+use Rattle.resolve.specs.Items.{ItemBelow}
+use Rattle.detect.specs.Records.{recordItem}
 use Rattle.detect.proofs.count.share_at.Statement.{statement}
 use Rattle.detect.proofs.count.share_at.Tie as tie
 

@@ -9,7 +9,7 @@ use Rattle.laws.proofs.Slices.{part-length, part-back}
 use Rattle.laws.proofs.Matrix.{band-in}
 use Rattle.laws.proofs.Loops.{none, made}
 use Rattle.laws.proofs.Maps.{ColsTo, cols-more}
-use Rattle.state.specs.Maps.{local4}
+use Rattle.real.specs.Maps.{local4}
 use Rattle.state.proofs.columns.columns4.Statement.{statement}
 use Rattle.state.proofs.columns.columns4.Tie as tie
 

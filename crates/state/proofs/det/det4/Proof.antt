@@ -6,8 +6,8 @@ use Rattle.state.specs.Det.{Line, betterOf, lastLargest, det}
 use lib.Ieee.{ofBits}
 use Rattle.laws.specs.Views.{upFrom}
 use Rattle.laws.specs.Zeros.{+1}
+use Rattle.real.specs.declared.maps.Map4.{Map4}
 use Rattle.state.specs.Parts.{line4}
-use Rattle.state.specs.declared.maps.Map4.{Map4}
 use Rattle.state.proofs.DetLaws.{largest-below, chosen}
 use Rattle.state.proofs.det.det4.Statement.{statement}
 use Rattle.state.proofs.det.det4.Tie as tie

@@ -3,7 +3,7 @@ use mathlib.Core.Path.{sym, ap, _∙_}
 use borrow.Author.Needs.{needs}
 use lib.Ieee.{lt, ofBits}
 use Rattle.laws.specs.Zeros.{+0}
-use Rattle.state.specs.Maps.{local4}
+use Rattle.real.specs.Maps.{local4}
 use Rattle.state.specs.Det.{odd}
 use Rattle.state.proofs.Steps.{step-turned, step-kept}
 use Rattle.state.proofs.local.apply_local4.Statement.{statement}

@@ -3,7 +3,7 @@ use borrow.Author.Needs.{needs}
 use Prim.Native.Nat.{ℕ, _+_, _*_}
 use native.Mathlib.Nat.{add-zero}
 use Rattle.laws.proofs.Stores.{stores-first, stores-more}
-use Rattle.state.specs.Maps.{row2}
+use Rattle.real.specs.Maps.{row2}
 use Rattle.state.proofs.rows.put_column2.Statement.{statement}
 use Rattle.state.proofs.rows.put_column2.Tie as tie
 

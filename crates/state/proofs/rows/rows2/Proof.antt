@@ -7,7 +7,7 @@ use Rattle.laws.specs.Slices.{stores}
 use Rattle.laws.specs.Loops.{byCol}
 use Rattle.laws.proofs.Loops.{none, made}
 use Rattle.laws.proofs.Maps.{RowsTo, rows-more}
-use Rattle.state.specs.Maps.{row2, local2}
+use Rattle.real.specs.Maps.{row2, local2}
 use Rattle.state.specs.Parts.{under2}
 use Rattle.state.proofs.Structs.{turn2}
 use Rattle.state.proofs.rows.rows2.Statement.{statement}

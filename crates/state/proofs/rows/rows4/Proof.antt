@@ -7,7 +7,7 @@ use Rattle.laws.specs.Slices.{stores}
 use Rattle.laws.specs.Loops.{byCol}
 use Rattle.laws.proofs.Loops.{none, made}
 use Rattle.laws.proofs.Maps.{RowsTo, rows-more}
-use Rattle.state.specs.Maps.{row4, local4}
+use Rattle.real.specs.Maps.{row4, local4}
 use Rattle.state.specs.Parts.{under4}
 use Rattle.state.proofs.Structs.{turn4}
 use Rattle.state.proofs.rows.rows4.Statement.{statement}

@@ -1,9 +1,9 @@
--- `pfaffian::entries::put` meets its contract: the place is in the list. Assumes nothing.
+-- `real::entries::put` meets its contract: the place is in the list. Assumes nothing.
 use native.Mathlib.Omega.{arith}
 use borrow.Author.Needs.{needs}
 use Rattle.laws.proofs.Matrix.{entry-in}
-use Rattle.pfaffian.proofs.entries.put.Statement.{statement}
-use Rattle.pfaffian.proofs.entries.put.Tie as tie
+use Rattle.real.proofs.entries.put.Statement.{statement}
+use Rattle.real.proofs.entries.put.Tie as tie
 
 mul-m : tie.Need-mul-m
 mul-m c = omega (arith, entry-in (c .pre))

@@ -1,9 +1,14 @@
--- Lists all of whose elements have a property, and lists cut at the first element that passes a test. By induction on the list. Assumes nothing.
-use mathlib.Core.Path.{_≡_, refl, ap}
+-- Lists all of whose elements have a property, also by their places, and lists cut at the first element that passes a test. By induction on the list.
+-- Assumes nothing.
+use mathlib.Core.Path.{_≡_, refl, ap, subst}
+use mathlib.Core.Logic.{_⊎_, inl, inr, _≢_}
 use mathlib.Core.Bool.{Bool, true, false, cond}
 use mathlib.Core.List.{List, [], _∷_, _++_, reverseAux}
-use Rattle.laws.specs.Views.{until, from}
-use Rattle.register.specs.Runs.{All}
+use Prim.Native.Nat.{ℕ, zero, suc, _+_, _≤_, _<_}
+use native.Mathlib.Omega.{arith}
+use Rattle.laws.specs.Lists.{All}
+use Rattle.laws.specs.Views.{upFrom, until, from}
+use Rattle.laws.proofs.Cases.{eq-or-ne}
 
 module _ {A : Type 0} where
   pub all-map : {P Q : A → Type 0} → ((x : A) → P x → Q x) → (xs : List A) → All P xs → All Q xs
@@ -21,6 +26,23 @@ module _ {A : Type 0} where
   pub all-onto : (P : A → Type 0) (xs ys : List A) → All P xs → All P ys → All P (reverseAux xs ys)
   all-onto P [] ys h k = k
   all-onto P (x ∷ xs) ys h k = all-onto P xs (x ∷ ys) (h .1) (h .0, k)
+
+  -- ---- a list by its places
+
+  module _ (P : A → Type 0) (e : ℕ → A) where
+    pub all-at : (k n i : ℕ) → All P (upFrom e k n) → k ≤ i → i < k + n → P (e i)
+    unfolding upFrom
+    all-at k zero i h a b = absurd (omega arith)
+    all-at k (suc n) i h a b = by (eq-or-ne k i) (λ ne. all-at (suc k) n i (h .1) (omega (arith, ne)) (omega arith))
+      where
+        by : (k ≡ i) ⊎ (k ≢ i) → (k ≢ i → P (e i)) → P (e i)
+        by (inl q) r = subst (λ (j : ℕ). P (e j)) q (h .0)
+        by (inr ne) r = r ne
+
+    pub all-of : (k n : ℕ) → ((i : ℕ) → k ≤ i → i < k + n → P (e i)) → All P (upFrom e k n)
+    unfolding upFrom
+    all-of k zero h = tt
+    all-of k (suc n) h = (h k (omega arith) (omega arith), all-of (suc k) n (λ i a b. h i (omega arith) (omega arith)))
 
   -- ---- a list cut at the first element that passes p
 

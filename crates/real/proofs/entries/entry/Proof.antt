@@ -1,9 +1,9 @@
--- `pfaffian::entries::entry` meets its contract: the place is in the list. Assumes nothing.
+-- `real::entries::entry` meets its contract: the place is in the list. Assumes nothing.
 use mathlib.Core.Path.{refl}
 use native.Mathlib.Omega.{arith}
 use Rattle.laws.proofs.Matrix.{entry-in}
-use Rattle.pfaffian.proofs.entries.entry.Statement.{statement}
-use Rattle.pfaffian.proofs.entries.entry.Tie as tie
+use Rattle.real.proofs.entries.entry.Statement.{statement}
+use Rattle.real.proofs.entries.entry.Tie as tie
 
 mul-result : tie.Need-mul-result
 mul-result c = omega (arith, entry-in (c .pre))
@@ -17,8 +17,5 @@ mul-result-2 c = omega (arith, entry-in (c .pre))
 shared-slice-read-result : tie.Need-shared-slice-read-result
 shared-slice-read-result c = entry-in (c .before .pre)
 
-returns : tie.Need-returns
-returns c = refl
-
 pub entry-spec : {M : Type 1} → statement M
-entry-spec = tie.close (tie.spec mul-result add-result mul-result-2 shared-slice-read-result returns)
+entry-spec = tie.close (tie.spec mul-result add-result mul-result-2 shared-slice-read-result (λ c. refl))
