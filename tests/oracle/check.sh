@@ -29,4 +29,7 @@ done
 for list in signs applies queries edges samples; do
     "$ORACLE" state "$list" | cmp - "$ROOT/crates/replay_state/data/$list.bin"
 done
+for list in edges register signs mixed; do
+    "$ORACLE" runs "$list" | cmp - "$ROOT/crates/replay_run/data/$list.bin"
+done
 echo "the stored lists are what the original gives"

@@ -9,57 +9,25 @@ use super::slices::load_modes;
 use super::tags::*;
 use state::Answer;
 use state::Applied;
-use state::Refusal;
 use stored::holds;
+use stored_calls::Told;
 
 const OP_PLACES: usize = 20; // of the largest operation slice
 
-fn number(r: Refusal) -> u64 {
-    match r {
-        Refusal::BadState => 16,
-        Refusal::BadOperation => 17,
-        Refusal::BadBits => 18,
-        Refusal::BadQubit(_) => 19,
-        Refusal::SmallWork => 20,
-        Refusal::BadShots => 21,
-        Refusal::BadDraw(_) => 22,
-    }
-}
-
-fn place(r: Refusal) -> usize {
-    match r {
-        Refusal::BadState => 0,
-        Refusal::BadOperation => 0,
-        Refusal::BadBits => 0,
-        Refusal::BadQubit(p) => p,
-        Refusal::SmallWork => 0,
-        Refusal::BadShots => 0,
-        Refusal::BadDraw(p) => p,
-    }
-}
-
-fn refusal_agrees(r: Refusal, s: &[u8], i: usize) -> bool {
-    if number(r) == stored::word(s, i) {
-        return place(r) as u64 == stored::word(s, std::num::wrapping_add_usize(i, 1));
+// Number, place and value from word i on; what is not there reads as 0.
+fn told_agrees(t: Told, s: &[u8], i: usize) -> bool {
+    if t.number == stored::word(s, i) && t.place == stored::word_from(s, i, 1) {
+        return t.value == stored::word_from(s, i, 2);
     }
     false
 }
 
-// Number and place from word i on.
 pub fn applied_agrees(a: Applied, s: &[u8], i: usize) -> bool {
-    match a {
-        Applied::Done => stored::word(s, i) == 0,
-        Applied::Refused(r) => refusal_agrees(r, s, i),
-    }
+    told_agrees(stored_calls::of_applied(a), s, i)
 }
 
-// Number, place and value from word i on.
 pub fn answer_agrees(a: Answer, s: &[u8], i: usize) -> bool {
-    match a {
-        Answer::Value(x) => stored::word(s, i) == 0
-            && num::to_bits(x) == stored::word(s, std::num::wrapping_add_usize(i, 2)),
-        Answer::Refused(r) => refusal_agrees(r, s, i),
-    }
+    told_agrees(stored_calls::of_answer(a), s, i)
 }
 
 fn apply_read(n: usize, v: &mut [f64], modes: &[u16], op: &mut [f64], s: &[u8]) -> bool {

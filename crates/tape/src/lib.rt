@@ -25,6 +25,7 @@ pub use header::Header;
 pub use header::read_header;
 pub use labels::Span;
 pub use labels::label;
+pub use labels::label_span;
 pub use reader::Reader;
 pub use reader::next;
 pub use reader::read_at;

@@ -15,6 +15,7 @@ pub mod query;
 pub mod records;
 pub mod rng;
 pub mod run;
+pub mod runs;
 pub mod selftest;
 pub mod state_lists;
 pub mod state_text;

@@ -4,7 +4,7 @@ use oracle::families::FAMILIES;
 use oracle::list::{parse_many, List, SEPARATOR};
 use oracle::rng::Rng;
 use oracle::{
-    check, classify, compiled, families, fused, leaves, run, selftest, state_lists, tape,
+    check, classify, compiled, families, fused, leaves, run, runs, selftest, state_lists, tape,
 };
 use std::io::{self, BufWriter, Read, Write};
 use std::process::ExitCode;
@@ -21,6 +21,8 @@ oracle fuse LIST                 the stored list LIST of tapes and their items, 
 oracle compile LIST              the stored list LIST of tapes and the answers of compile, in binary: edges, graphs,
                                  exact or angled
 oracle classify LIST             the stored list LIST of blocks and their classes, in binary: gates, given or phases
+oracle runs LIST [SEED]          the stored list LIST of whole runs and queries, in binary: edges, register, signs or mixed;
+                                 with a seed that is not 0 one of other random tapes
 oracle state LIST                the stored list LIST of states and calls on them, in binary: signs, applies, queries,
                                  edges or samples";
 
@@ -51,6 +53,8 @@ fn command(words: &[&str]) -> Result<bool, String> {
         ["leaves"] => write_out(&leaves::leaves()).map(|()| true),
         ["leaves", "products"] => write_out(&leaves::more_products()).map(|()| true),
         ["fuse", list] => write_out(&fused::list(list)?).map(|()| true),
+        ["runs", list] => write_out(&runs::list(list, 0)?).map(|()| true),
+        ["runs", list, seed] => write_out(&runs::list(list, number(seed)?)?).map(|()| true),
         ["compile", list] => write_out(&compiled::list(list)?).map(|()| true),
         ["state", list] => write_out(&state_lists::list(list)?).map(|()| true),
         ["classify", list] => write_out(&classify::list(list)?).map(|()| true),

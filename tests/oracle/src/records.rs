@@ -60,7 +60,7 @@ impl Records {
 }
 
 /// Bytes as words, zeros after the last.
-fn words_of(bytes: &[u8]) -> Vec<u64> {
+pub fn words_of(bytes: &[u8]) -> Vec<u64> {
     let word = |part: &[u8]| part.iter().rev().fold(0, |w, &b| w << 8 | u64::from(b));
     bytes.chunks(8).map(word).collect()
 }

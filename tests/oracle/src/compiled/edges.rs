@@ -87,7 +87,7 @@ fn refused(out: &mut Records, bytes: &[u8], lent: Lent, zeros: [usize; 2], refus
 }
 
 /// Tapes that the questions 1 to 8 refuse, with number and place.
-fn refused_tapes() -> Vec<(Vec<u8>, u64, usize)> {
+pub fn refused_tapes() -> Vec<(Vec<u8>, u64, usize)> {
     use Gate::*;
     let good = bytes(&of(2, 3, &[X(0), ISwap(0, 1)]));
     let end = good.len();

@@ -3,7 +3,7 @@
 //! lent slices, and the answer. docs/TESTING.md says more.
 
 pub mod answer;
-mod edges;
+pub mod edges;
 pub mod graphs;
 mod random;
 

@@ -39,7 +39,17 @@ pub struct Machine {
 
 impl Machine {
     pub fn new() -> Machine {
-        Machine { out: Records::default(), n: 0, slice: vec![], modes: vec![] }
+        Machine::on(0, vec![], vec![])
+    }
+
+    /// A machine on a state, without a record of it.
+    pub fn on(n: usize, slice: Vec<f64>, modes: Vec<u16>) -> Machine {
+        Machine { out: Records::default(), n, slice, modes }
+    }
+
+    /// The slice as it is now.
+    pub fn slice(&self) -> &[f64] {
+        &self.slice
     }
 
     /// A record: tag, number of words that follow, the words.
@@ -109,20 +119,25 @@ impl Machine {
 
     /// `apply`: the length of the operation, its places, number and place; then the state's slice as it is now.
     pub fn apply(&mut self, op: &[f64]) {
-        let number = match (self.state_ok(), self.operation(op)) {
-            (false, _) => 16,
-            (true, None) => 17,
-            (true, Some(o)) => {
-                self.applied(&o);
-                0
-            }
-        };
+        let number = self.step(op);
         let mut words = vec![op.len() as u64];
         words.extend((0..OP).map(|i| word(op.get(i).copied().unwrap_or(0.0))));
         words.extend([number, 0]);
         self.record(tag::APPLY, &words);
         let words: Vec<u64> = self.slice.iter().map(|&x| word(x)).collect();
         self.record(tag::HOLDS, &words);
+    }
+
+    /// Applies an operation, or gives the number of the refusal.
+    pub fn step(&mut self, op: &[f64]) -> u64 {
+        match (self.state_ok(), self.operation(op)) {
+            (false, _) => 16,
+            (true, None) => 17,
+            (true, Some(o)) => {
+                self.applied(&o);
+                0
+            }
+        }
     }
 
     fn applied(&mut self, op: &GaussOp) {
@@ -134,12 +149,19 @@ impl Machine {
 
     /// `expectation_z`: qubit, number, place, value.
     pub fn z(&mut self, q: usize) {
+        let mut words = vec![q as u64];
+        words.extend(self.z_words(q));
+        self.record(tag::Z, &words);
+    }
+
+    /// Number, place and value of `expectation_z`.
+    pub fn z_words(&self, q: usize) -> Vec<u64> {
         let (number, place, value) = match (self.state_ok(), q < self.n) {
             (false, _) => refused(16, 0),
             (_, false) => refused(19, 0),
             _ => (0, 0, self.original().expectation_z(q).expect("a good qubit")),
         };
-        self.record(tag::Z, &[q as u64, number, place, word(value)]);
+        vec![number, place, word(value)]
     }
 
     /// The words of work and answer: work's length, how many of its places are zero after the call, number,
@@ -154,7 +176,7 @@ impl Machine {
     }
 
     /// Number and place of a list's refusal, else the original's product.
-    fn product_words(&self, qubits: &[usize], work: usize) -> Vec<u64> {
+    pub fn product_words(&self, qubits: &[usize], work: usize) -> Vec<u64> {
         let bad = qubits.iter().position(|&q| q >= self.n);
         match (self.state_ok(), bad) {
             (false, _) => self.worked(work, None, || refused(16, 0)),
@@ -193,7 +215,7 @@ impl Machine {
         self.record(tag::MARGINAL, &words);
     }
 
-    fn marginal_words(&self, qubits: &[usize], bits: &[u8], work: usize) -> Vec<u64> {
+    pub fn marginal_words(&self, qubits: &[usize], bits: &[u8], work: usize) -> Vec<u64> {
         if !self.state_ok() {
             return self.worked(work, None, || refused(16, 0));
         }
@@ -218,22 +240,40 @@ impl Machine {
 
     /// `probability`: the two words of the index, then work and answer.
     pub fn probability(&mut self, low: u64, high: u64, work: usize) {
+        let mut words = vec![low, high];
+        words.extend(self.probability_words(low, high, work));
+        self.record(tag::PROBABILITY, &words);
+    }
+
+    pub fn probability_words(&self, low: u64, high: u64, work: usize) -> Vec<u64> {
         let x = u128::from(low) | u128::from(high) << 64;
         let value = || self.original().probability(x).expect("at most 128 qubits");
-        let answer = match self.state_ok() {
+        match self.state_ok() {
             false => self.worked(work, None, || refused(16, 0)),
             true => self.worked(work, Some(2 * self.n), || (0, 0, value())),
-        };
-        let mut words = vec![low, high];
-        words.extend(answer);
-        self.record(tag::PROBABILITY, &words);
+        }
     }
 
     /// `sample`: shots, number of draws, length of the output, the draws, then work and answer, then the output.
     pub fn sample(&mut self, shots: usize, draws: &[f64], out: usize, work: usize) {
-        let (n, used) = (self.n, self.n.saturating_mul(shots));
         let mut words = vec![shots as u64, draws.len() as u64, out as u64];
         words.extend((0..DRAWS).map(|i| word(draws.get(i).copied().unwrap_or(0.0))));
+        let (answer, mut output) = self.sample_words(shots, draws, out, work);
+        output.resize(OUT, OLD);
+        words.extend(answer);
+        words.extend(output);
+        self.record(tag::SAMPLE, &words);
+    }
+
+    /// Work and answer of `sample`, and its output of so many words.
+    pub fn sample_words(
+        &self,
+        shots: usize,
+        draws: &[f64],
+        out: usize,
+        work: usize,
+    ) -> (Vec<u64>, Vec<u64>) {
+        let used = self.n.saturating_mul(shots);
         let bad = || draws[..used].iter().position(|x| !(*x >= 0.0 && *x < 1.0));
         let number = if !self.state_ok() {
             16
@@ -245,17 +285,15 @@ impl Machine {
             0
         };
         let place = if number == 22 { bad().unwrap_or(0) } else { 0 };
-        let dim = (number != 16).then_some(2 * n);
+        let dim = (number != 16).then_some(2 * self.n);
         let answer = self.worked(work, dim, || (number, place as u64, 0.0));
-        let mut output = vec![OLD; OUT];
+        let mut output = vec![OLD; out];
         if answer[2] == 0 {
             for (i, x) in self.shots(shots, &draws[..used]).into_iter().enumerate() {
                 (output[2 * i], output[2 * i + 1]) = (x as u64, (x >> 64) as u64);
             }
         }
-        words.extend(answer);
-        words.extend(output);
-        self.record(tag::SAMPLE, &words);
+        (answer, output)
     }
 
     /// The original's shots.

@@ -2,7 +2,7 @@
 //! number of words that follow, and the words. docs/TESTING.md has the table.
 
 mod applies;
-mod machine;
+pub mod machine;
 mod queries;
 mod samples;
 mod signs;

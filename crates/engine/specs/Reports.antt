@@ -1,0 +1,84 @@
+-- What `compile` and `run` return and write: number and place of a refusal, and the report as 14 words, 2 floats and a table of 384 entries.
+-- Definitions only.
+use mathlib.Core.Path.{_≡_}
+use mathlib.Core.Bool.{Bool, cond, _&&_}
+use mathlib.Core.List.{List, [], _∷_}
+use Prim.Native.Nat.{ℕ, _*_}
+use lib.Dec.{leb}
+use lib.ListN.{length, getD, set}
+use lib.Ieee.{Float}
+use Rattle.laws.specs.Slices.{putRow}
+use Rattle.tape.specs.Bounds.{maxQubits}
+use Rattle.order.specs.declared.choice.Ordering.{Ordering}
+use Rattle.order.specs.declared.choice.Ordering.the-variants.{Identity, Paths, Greedy}
+use Rattle.detect.specs.declared.report.Report.{Report}
+use Rattle.detect.specs.declared.report.Answer.{Answer}
+use Rattle.detect.specs.declared.report.Answer.the-variants.{Done, Refused}
+use Rattle.detect.specs.declared.report.Compiled.{Compiled}
+use Rattle.engine.specs.Answers.{noRoom}
+
+-- ---- the answer
+
+abbrev pub numberOf : Answer → ℕ
+numberOf Done = 0
+numberOf (Refused number place) = number
+
+abbrev pub placeOf : Answer → ℕ
+placeOf Done = 0
+placeOf (Refused number place) = place
+
+-- ---- the report
+
+abbrev pub flag : Bool → ℕ
+flag b = cond b 1 0
+
+-- "an enum: identity, paths or greedy"
+abbrev pub orderingWord : Ordering → ℕ
+orderingWord Identity = 0
+orderingWord Paths = 1
+orderingWord Greedy = 2
+
+-- counts first, then the flags, then the ordering
+unfoldable pub reportWords : Report → List ℕ
+reportWords r =
+    r .n ∷ r .blocks ∷ r .two ∷ r .gaussian ∷ r .bad ∷ r .nonadjacent ∷ r .interactions ∷ r .swaps ∷ r .operations
+    ∷ flag (r .conserving) ∷ flag (r .exact) ∷ flag (r .free) ∷ flag (r .angled) ∷ orderingWord (r .ordering)
+    ∷ []
+
+-- ---- in slices
+
+-- the words of a report
+abbrev pub wordCount : ℕ
+wordCount = 14
+
+-- the n entries of t from place a on
+abbrev pub laid : ℕ → ℕ → List ℕ → List ℕ → List ℕ
+laid n a t l = putRow n a (λ k. getD t k 0) l
+
+unfoldable pub wordsWritten : Report → List ℕ → List ℕ
+wordsWritten r l = laid wordCount 0 (reportWords r) l
+
+unfoldable pub measuresWritten : Report → List Float → List Float
+measuresWritten r l = set (set l 0 (r .fraction)) 1 (r .residual)
+
+-- "wires by mode", "path starts are marks beside the order", the mode of each qubit
+unfoldable pub tablesWritten : Report → List ℕ → List ℕ
+tablesWritten r l =
+    laid maxQubits (2 * maxQubits) (r .modes) (laid maxQubits maxQubits (r .starts) (laid maxQubits 0 (r .order) l))
+
+-- slices of these lengths have room for the place and the report
+unfoldable pub hasReport : ℕ → ℕ → ℕ → ℕ → Bool
+hasReport place report measures tables = leb 1 place && (leb wordCount report && (leb 2 measures && leb (3 * maxQubits) tables))
+
+-- the same, of the slices
+abbrev pub roomOf : List ℕ → List ℕ → List Float → List ℕ → Bool
+roomOf p w m t = hasReport (length p) (length w) (length m) (length t)
+
+-- c is told: its number is returned; its place, the words, the measures and the tables of its report are written; p, w, m and t are the slices
+-- before, p′, w′, m′ and t′ after
+pub record Reports (c : Compiled) (p w : List ℕ) (m : List Float) (t : List ℕ) (r : ℕ) (p′ w′ : List ℕ) (m′ : List Float) (t′ : List ℕ) : Type 0 where
+  pub number : r ≡ cond (roomOf p w m t) (numberOf (c .answer)) noRoom
+  pub place : p′ ≡ cond (roomOf p w m t) (set p 0 (placeOf (c .answer))) p
+  pub words : w′ ≡ cond (roomOf p w m t) (wordsWritten (c .report) w) w
+  pub measures : m′ ≡ cond (roomOf p w m t) (measuresWritten (c .report) m) m
+  pub tables : t′ ≡ cond (roomOf p w m t) (tablesWritten (c .report) t) t

@@ -1,0 +1,29 @@
+-- `replay_run::slices::floats` is safe and ends: it goes through the slice once. Assumes nothing.
+use Prim.Native.Nat.{_≤_, _-_}
+use lib.ListN.{length}
+use borrow.Author.Needs.{needs}
+use Rattle.replay_run.proofs.slices.floats.Statement.{statement}
+use Rattle.replay_run.proofs.slices.floats.Tie as tie
+
+abbrev Inv-loop : tie.InvT-loop
+Inv-loop v words first i₀ i = i ≤ length v
+
+abbrev μ-loop : tie.MeasureT-loop
+μ-loop v words first i₀ i = length v - i
+
+pub floats-spec : {M : Type 1} → statement M
+floats-spec =
+    tie.close
+    (tie.spec
+    Inv-loop
+    μ-loop
+    (λ c. search needs)
+    (λ c. search needs)
+    (λ c. search needs)
+    (λ c κs. search needs)
+    (λ c κs. search needs)
+    (λ c. search needs)
+    (λ c. search needs)
+    (λ c. search needs)
+    (λ c. search needs)
+    (λ c. search needs))

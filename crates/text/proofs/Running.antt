@@ -1,0 +1,119 @@
+-- The run of a tape that is not too big: slices with room for 32 gates and 8 qubits suffice, so questions 9, 10 and 15 are answered with yes, and the
+-- text is that of the run's answer, report and state. Assumes nothing.
+use mathlib.Core.Path.{_≡_, refl, ap, subst}
+use mathlib.Core.Bool.{Bool, true, false, cond, _||_}
+use Prim.Native.Nat.{ℕ, _+_, _*_, _≤_}
+use native.Mathlib.Nat.{le-refl, mul-le-mul}
+use native.Mathlib.Omega.{arith}
+use lib.Dec.{T, ltb}
+use lib.ListN.{length, replicate}
+use borrow.Author.Tests.{ltb-false, le-ltb}
+use Rattle.laws.specs.Zeros.{+0}
+use Rattle.tape.specs.Parse.{Parsed, Content, refused, accepted}
+use Rattle.tape.specs.declared.header.Header.{Header}
+use Rattle.detect.specs.declared.report.Report.{Report}
+use Rattle.detect.specs.declared.report.Answer.the-variants.{Done, Refused}
+use Rattle.detect.specs.Operation.{opPlaces}
+use Rattle.detect.specs.Report.{reportOf, noReport}
+use Rattle.detect.specs.Compile.{floatsOf, marksOf, hasWork, reportedOf}
+use Rattle.state.specs.Bounds.{dimOf, statePlaces}
+use Rattle.gaussian.specs.Run.{verdictOf, judged, askedOf, answerOf, stateAfter}
+use Rattle.text.specs.Bounds.{maxGates, maxQubits}
+use Rattle.text.specs.Lines.{refusedLine}
+use Rattle.text.specs.Print.{isLarge, runOf, doneText, textOf}
+use Rattle.text.proofs.Few.{operations-few}
+
+-- ---- what is lent, for 32 gates and 8 qubits
+
+abbrev records : ℕ
+records = maxGates + maxQubits
+
+abbrev pub floats : ℕ
+floats = 64 * records
+
+abbrev pub marks : ℕ
+marks = 32 * records
+
+-- an item becomes at most three operations
+abbrev pub places : ℕ
+places = opPlaces * 3 * records
+
+abbrev pub states : ℕ
+states = statePlaces (dimOf maxQubits)
+
+-- ---- it suffices
+
+either : (a b : Bool) → (a || b) ≡ false → (a ≡ false) × (b ≡ false)
+either true b e = absurd (subst T e tt)
+either false b e = (refl, e)
+
+sizes : (h : Header) (c : Content) → isLarge (accepted h c) ≡ false → (length (c .gates) ≤ maxGates) × (h .n ≤ maxQubits)
+unfolding isLarge
+sizes h c e =
+    let b = either (ltb maxGates (length (c .gates))) (ltb maxQubits (h .n)) e in
+    (ltb-false maxGates (length (c .gates)) (b .0), ltb-false maxQubits (h .n) (b .1))
+
+-- a verdict does not turn on the places, where there are enough
+same-verdict : (h : Header) (r : Report) (o o′ s s′ : ℕ) → opPlaces * r .operations ≤ o → opPlaces * r .operations ≤ o′
+    → statePlaces (dimOf (h .n)) ≤ s → statePlaces (dimOf (h .n)) ≤ s′ → verdictOf h r o s ≡ verdictOf h r o′ s′
+unfolding verdictOf
+same-verdict h r o o′ s s′ ho ho′ hs hs′ =
+    rw (
+      le-ltb o (opPlaces * r .operations) ho,
+      le-ltb o′ (opPlaces * r .operations) ho′,
+      le-ltb s (statePlaces (dimOf (h .n))) hs,
+      le-ltb s′ (statePlaces (dimOf (h .n))) hs′,
+    )
+
+enough-work : (g n : ℕ) → g ≤ maxGates → n ≤ maxQubits → hasWork g n floats marks ≡ true
+enough-work g n hg hn = rw (le-ltb floats (floatsOf g n) (omega arith), le-ltb marks (marksOf g n) (omega arith))
+
+pub enough-state : (n : ℕ) → n ≤ maxQubits → statePlaces (dimOf n) ≤ states
+enough-state n h =
+    let d : dimOf n ≤ 16 = omega arith in
+    omega (arith, mul-le-mul d d)
+
+pub suffices : (p : Parsed) → isLarge p ≡ false → askedOf p floats marks places states ≡ runOf p
+unfolding askedOf runOf
+suffices (refused r q) e = refl
+suffices (accepted h c) e =
+    let few = sizes h c e in
+    let r : Report = reportedOf h (c .gates) in
+    let ops : opPlaces * r .operations ≤ places = omega (arith, operations-few h (c .gates), few .0, few .1) in
+    rw (enough-work (length (c .gates)) (h .n) (few .0) (few .1))
+    (ap (λ v. judged v h c)
+    (same-verdict h r places (opPlaces * r .operations) states (statePlaces (dimOf (h .n)))
+    ops (le-refl _) (enough-state (h .n) (few .1)) (le-refl _)))
+
+-- ---- the text, by the answer
+
+pub refused-text : (p : Parsed) (number place : ℕ) → answerOf p .answer ≡ Refused number place → textOf p ≡ refusedLine number place
+unfolding answerOf textOf
+refused-text (refused r q) number place e =
+    let a : r ≡ number = cc in
+    let b : q ≡ place = cc in
+    rw (a, b)
+refused-text (accepted h c) number place e = absurd (no e)
+  where
+    no : Done ≡ Refused number place → ⊥
+    no e = let z : _≡_ {A = ℕ} 0 1 = cc in omega arith
+
+pub done-text : (p : Parsed) → answerOf p .answer ≡ Done → textOf p ≡ doneText (answerOf p .report) (stateAfter p (replicate states +0))
+unfolding answerOf textOf stateAfter
+done-text (refused r q) e = absurd (no e)
+  where
+    no : Refused r q ≡ Done → ⊥
+    no e = let z : _≡_ {A = ℕ} 0 1 = cc in omega arith
+done-text (accepted h c) e = refl
+
+pub few-qubits : (p : Parsed) → isLarge p ≡ false → answerOf (runOf p) .report .n ≤ maxQubits
+unfolding answerOf runOf noReport reportedOf reportOf
+few-qubits (refused r q) e = omega arith
+few-qubits (accepted h c) e = by (ltb 0 v)
+  where
+    v : ℕ
+    v = verdictOf h (reportedOf h (c .gates)) (opPlaces * reportedOf h (c .gates) .operations) (statePlaces (dimOf (h .n)))
+
+    by : (t : Bool) → answerOf (cond t (refused v 0) (accepted h c)) .report .n ≤ maxQubits
+    by true = omega arith
+    by false = sizes h c e .1

@@ -1,0 +1,23 @@
+-- The bounds of the printing program, each named once. Assumes nothing.
+use Prim.Native.Nat.{ℕ}
+
+-- "over 60,000 bytes"
+abbrev pub maxTape : ℕ
+maxTape = 60000
+
+-- "over 32 gates or 8 qubits"
+abbrev pub maxGates : ℕ
+maxGates = 32
+
+abbrev pub maxQubits : ℕ
+maxQubits = 8
+
+-- what is written at most, in bytes: line 2, the q lines, and a whole text
+abbrev pub maxOrderLine : ℕ
+maxOrderLine = 63
+
+abbrev pub maxZLines : ℕ
+maxZLines = 96
+
+abbrev pub maxText : ℕ
+maxText = 256

@@ -1,0 +1,62 @@
+-- The printing program: the text of a tape. Definitions only.
+use mathlib.Core.Bool.{Bool, false, cond, _||_}
+use mathlib.Core.List.{List, _++_}
+use Prim.Native.Nat.{ℕ, _*_}
+use lib.Dec.{ltb}
+use lib.ListN.{length, replicate}
+use lib.Ieee.{Float}
+use Rattle.laws.specs.Zeros.{+0}
+use Rattle.tape.specs.Parse.{Parsed, Content, refused, accepted, parse}
+use Rattle.tape.specs.declared.header.Header.{Header}
+use Rattle.detect.specs.declared.report.Report.{Report}
+use Rattle.detect.specs.Operation.{opPlaces}
+use Rattle.detect.specs.Compile.{reportedOf, programOf}
+use Rattle.state.specs.Bounds.{dimOf, statePlaces}
+use Rattle.state.specs.State.{stored}
+use Rattle.state.specs.Calls.{expectationZOf}
+use Rattle.evolve.specs.Evolve.{evolved}
+use Rattle.gaussian.specs.Run.{askedReport}
+use Rattle.text.specs.Bounds.{maxTape, maxGates, maxQubits}
+use Rattle.text.specs.Lines.{reportLine, orderLine, zLines, refusedLine, tooBigLine}
+
+-- ---- "too big"
+
+-- "one that passes 1 to 8 and has over 32 gates or 8 qubits"
+unfoldable pub isLarge : Parsed → Bool
+isLarge (refused number place) = false
+isLarge (accepted h c) = ltb maxGates (length (c .gates)) || ltb maxQubits (h .n)
+
+-- "over 60,000 bytes .. so does" such a one
+unfoldable pub isTooBig : List ℕ → Bool
+isTooBig t = ltb maxTape (length t) || isLarge (parse t)
+
+-- ---- the run
+
+-- the tape, or the first question whose answer is no; with slices as long as 9, 10 and 15 ask
+unfoldable pub runOf : Parsed → Parsed
+runOf (refused number place) = refused number place
+runOf (accepted h c) = askedReport h c (opPlaces * reportedOf h (c .gates) .operations) (statePlaces (dimOf (h .n)))
+
+-- the state that it leaves, in a slice with room for 8 qubits
+abbrev pub stateOf : Header → Content → List Float
+stateOf h c = stored (dimOf (h .n)) (evolved (h .n) (programOf h (c .gates))) (replicate (statePlaces (dimOf maxQubits)) +0)
+
+-- Z of qubit q: what `expectation_z` answers of a state
+abbrev pub zAt : ℕ → List Float → List ℕ → ℕ → Float
+zAt n state modes q = expectationZOf n state modes q .value
+
+-- ---- the text
+
+-- of a report, with the state
+unfoldable pub doneText : Report → List Float → List ℕ
+doneText r state =
+    reportLine (r .n) (r .blocks) (r .gaussian) (r .bad) (r .interactions)
+    ++ orderLine (r .ordering) (r .order) (r .n)
+    ++ zLines (zAt (r .n) state (r .modes)) (r .n)
+
+unfoldable pub textOf : Parsed → List ℕ
+textOf (refused number place) = refusedLine number place
+textOf (accepted h c) = doneText (reportedOf h (c .gates)) (stateOf h c)
+
+unfoldable pub printed : List ℕ → List ℕ
+printed t = cond (isTooBig t) tooBigLine (textOf (runOf (parse t)))
