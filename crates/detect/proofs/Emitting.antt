@@ -16,7 +16,8 @@ use Rattle.real.specs.declared.maps.Map2.{Map2}
 use Rattle.gate.specs.Complex.{f0}
 use Rattle.gate.specs.declared.matrix.Mat4.{Mat4}
 use Rattle.work.specs.Marks.{markAt}
-use Rattle.work.specs.Columns.{kindColumn}
+use Rattle.work.specs.Columns.{kindColumn, aColumn, bColumn}
+use Rattle.fuse.specs.Layout.{matrix4Of}
 use Rattle.majorana.specs.Diagonal.{phaseAOf, phaseBOf, interactionOf, unitOf, rotationOf}
 use Rattle.majorana.specs.Majorana.{majoranaMap1Of, majoranaMap2Of}
 use Rattle.majorana.specs.Numbers.{commutesJ2Of}
@@ -30,7 +31,7 @@ use Rattle.detect.specs.Operation.{Operation, one, two, interaction, one
 use Rattle.detect.specs.Emit.{orientedOf, lowerOf, rotated, rotationsOf, twoOperations, itemOperations, operationsOf}
 use Rattle.detect.specs.Counts.{gaussian, interacting, bad, apart, oneShare, adjacentShare, matchShare, turned, turnsIn, twoShare, plusOf, shareOf, countedOnto, countsOf}
 use Rattle.detect.specs.Records.{isItemOf, recordItem, itemsIn, modesIn}
-use Rattle.detect.proofs.Items.{items-more, items-same, items-none}
+use Rattle.detect.proofs.Items.{items-more, items-same, items-none, record-two}
 use Rattle.detect.proofs.Placing.{all-append, one-long, put-none, put-one, put-length, put-both}
 
 -- ---- one record more
@@ -150,7 +151,7 @@ module _ (n : ℕ) (pos pos′ : ℕ → ℕ) (same : (w : ℕ) → w < n → po
 -- ---- by kind
 
 module _ (block kind i j : ℕ) (v : Mat4) where
-  pub two-match : kind ≡ 5 → twoOperations block kind i j v ≡ two (lowerOf i j) (majoranaMap2Of (orientedOf i j v) .q) ∷ []
+  two-match : kind ≡ 5 → twoOperations block kind i j v ≡ two (lowerOf i j) (majoranaMap2Of (orientedOf i j v) .q) ∷ []
   unfolding twoOperations
   two-match e = rw e refl
 
@@ -165,6 +166,19 @@ module _ (block kind i j : ℕ) (v : Mat4) where
   pub two-neither : (kind ≡ 5 → ⊥) → (kind ≡ 6 → ⊥) → (kind ≡ 7 → ⊥) → twoOperations block kind i j v ≡ []
   unfolding twoOperations
   two-neither a b c = rw (ne-eqb kind 5 a, ne-eqb kind 6 b, ne-eqb kind 7 c)
+
+-- the operation of the matchgate of record i
+module _ (xs : List Float) (us : List ℕ) (pos : ℕ → ℕ) where
+  abbrev pub matchOf : ℕ → Operation
+  matchOf i =
+      let a = pos (markAt us i aColumn) in
+      let b = pos (markAt us i bColumn) in
+      two (lowerOf a b) (majoranaMap2Of (orientedOf a b (matrix4Of xs i)) .q)
+
+  pub record-match : (block i : ℕ) → markAt us i kindColumn ≡ 5 → itemOperations pos block (recordItem xs us i) ≡ matchOf i ∷ []
+  record-match block i e =
+      rw (record-two xs us i (λ q. omega (arith, e, q)) (λ q. omega (arith, e, q)))
+      (two-match block (markAt us i kindColumn) (pos (markAt us i aColumn)) (pos (markAt us i bColumn)) (matrix4Of xs i) e)
 
 -- ---- rotations
 

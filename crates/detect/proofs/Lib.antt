@@ -3,6 +3,7 @@ pub mod Items
 pub mod Sums
 pub mod Placing
 pub mod Emitting
+pub mod Keeping
 pub mod Entries
 pub mod Slots
 pub mod Wires

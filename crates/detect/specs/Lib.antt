@@ -3,6 +3,7 @@ pub mod Operation
 pub mod Records
 pub mod Emit
 pub mod Counts
+pub mod Kept
 pub mod Report
 pub mod Compile
 pub mod Program

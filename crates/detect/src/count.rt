@@ -1,11 +1,17 @@
 // The report's counts: each item's share, and their sum in item order.
 ghost use mathlib.Core.Path.{_≡_};
 ghost use mathlib.Core.Bool.{_&&_};
-ghost use Prim.Native.Nat.{_≤_};
+ghost use Prim.Native.Nat.{_+_, _≤_};
+ghost use lib.ListN.{length};
 ghost use Rattle.order.specs.Arrangement.{besideOf};
-ghost use Rattle.detect.specs.Emit.{orientedOf};
+ghost use Rattle.detect.specs.Operation.{opPlaces};
+ghost use Rattle.detect.specs.Emit.{orientedOf, lowerOf};
 ghost use Rattle.detect.specs.Counts.{gaussian, bad, oneShare, matchShare, turned, turnsIn, twoShare, plusOf, shareOf, countsOf};
 ghost use Rattle.detect.specs.Records.{isItemOf, recordItem, itemsIn, modesIn, ItemThere, Held, Small};
+ghost use Rattle.detect.specs.Kept.{matchKept, twoKept, recordKept, Counted};
+use crate::places::KEPT;
+use crate::places::put;
+use crate::places::two_places;
 use fuse::matrix2;
 use fuse::matrix4;
 use gate::Mat4;
@@ -106,13 +112,26 @@ pub fn oriented(i: u32, j: u32, v: Mat4) -> Mat4
     mat4_swap_qubits(v)
 }
 
-// A matchgate on the modes i and j.
-fn match_share(i: u32, j: u32, residual: f64, v: Mat4) -> Counts
-    ensures { λ r. ⌜ r ≡ matchShare i j residual v ⌝ }
+// The lower of two modes.
+fn lower(i: u32, j: u32) -> u32
+    ensures { λ r. ⌜ r ≡ lowerOf i j ⌝ }
+{
+    if i < j {
+        return i;
+    }
+    j
+}
+
+// A matchgate on the modes i and j. If they are neighbours its operation is kept in w, from `at` on: emission needs the same map.
+fn match_share(w: &mut [f64], at: usize, i: u32, j: u32, residual: f64, v: Mat4) -> Counts
+    requires { ⌜ at + opPlaces ≤ length (now w) ⌝ }
+    ensures share { λ r. ⌜ r ≡ matchShare i j residual v ⌝ }
+    ensures kept { λ _. ⌜ now (w .exit) ≡ matchKept at i j v (now (w .entry)) ⌝ }
 {
     if beside(i, j) {
         let m = majorana_map2(oriented(i, j, v));
         let conserving = number_conserving4(m.q);
+        put(w, at, two_places(lower(i, j), m.q));
         return gaussian_share(1, 1, num::max(m.residual, residual), conserving);
     }
     Counts {
@@ -146,12 +165,14 @@ fn turns_in(v: Mat4) -> u32
     a + b
 }
 
-// A block on the modes i and j.
-fn two_share(kind: u32, i: u32, j: u32, residual: f64, v: Mat4) -> Counts
-    ensures { λ r. ⌜ r ≡ twoShare kind i j residual v ⌝ }
+// A block on the modes i and j; of a matchgate the operation is kept from `at` on.
+fn two_share(w: &mut [f64], at: usize, kind: u32, i: u32, j: u32, residual: f64, v: Mat4) -> Counts
+    requires { ⌜ at + opPlaces ≤ length (now w) ⌝ }
+    ensures share { λ r. ⌜ r ≡ twoShare kind i j residual v ⌝ }
+    ensures kept { λ _. ⌜ now (w .exit) ≡ twoKept kind at i j v (now (w .entry)) ⌝ }
 {
     if kind == MATCH_ITEM {
-        return match_share(i, j, residual, v);
+        return match_share(w, at, i, j, residual, v);
     }
     if kind == DIAGONAL_ITEM {
         return gaussian_share(1, turns_in(v), 0.0, true);
@@ -210,9 +231,10 @@ pub fn is_item(kind: u32) -> bool
 }
 
 // The share of the item in record i.
-fn share_at(w: &[f64], u: &[u32], i: usize, n: usize, tol: f64) -> Counts
+fn share_at(w: &mut [f64], u: &[u32], i: usize, n: usize, tol: f64) -> Counts
     requires { ⌜ ItemThere (now w) (now u) i n ⌝ }
-    ensures { λ r. ⌜ r ≡ shareOf tol (modesIn (now (u .entry))) (recordItem (now (w .entry)) (now (u .entry)) i) ⌝ }
+    ensures share { λ r. ⌜ r ≡ shareOf tol (modesIn (now (u .entry))) (recordItem (now (w .entry)) (now (u .entry)) i) ⌝ }
+    ensures kept { λ _. ⌜ now (w .exit) ≡ recordKept (now (w .entry)) (now (u .entry)) i ⌝ }
 {
     let kind = mark(u, i, KIND);
     if kind == ONE_ITEM {
@@ -225,14 +247,17 @@ fn share_at(w: &[f64], u: &[u32], i: usize, n: usize, tol: f64) -> Counts
     let b = mark(u, i, B);
     let p = mark(u, a as usize, POS);
     let q = mark(u, b as usize, POS);
-    let at = 64 * i + 32;
-    two_share(kind, p, q, w[at], matrix4(w, i))
+    let at = 64 * i;
+    let residual = w[at + 32];
+    let v = matrix4(w, i);
+    two_share(w, at + KEPT, kind, p, q, residual, v)
 }
 
-// The items of the first m records, on n wires.
-pub fn count_all(w: &[f64], u: &[u32], m: usize, n: usize, tol: f64) -> Counts
+// The items of the first m records, on n wires; the operations of matchgates are kept in their records.
+pub fn count_all(w: &mut [f64], u: &[u32], m: usize, n: usize, tol: f64) -> Counts
     requires { ⌜ Held (now w) (now u) m n ⌝ }
-    ensures { λ r. ⌜ r ≡ countsOf tol (modesIn (now (u .entry))) (itemsIn (now (w .entry)) (now (u .entry)) m) ⌝ }
+    ensures counts { λ r. ⌜ r ≡ countsOf tol (modesIn (now (u .entry))) (itemsIn (now (w .entry)) (now (u .entry)) m) ⌝ }
+    ensures kept { λ r. ⌜ Counted r (now (w .entry)) (now (w .exit)) (now (u .entry)) m ⌝ }
 {
     let mut c = Counts {
         blocks: 0,

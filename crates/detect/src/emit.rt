@@ -1,21 +1,26 @@
 // The operations of the items, in item order, 18 places each.
 ghost use mathlib.Core.Path.{_≡_};
+ghost use mathlib.Core.Logic.{_≢_};
 ghost use Prim.Native.Nat.{_+_, _≤_};
 ghost use lib.ListN.{length};
-ghost use lib.Seq.{paste};
-ghost use Rattle.detect.specs.Operation.{opPlaces, onePlaces, twoPlaces, interactionPlaces, allPlaces, written, Put};
-ghost use Rattle.detect.specs.Emit.{rotated, rotationsOf, lowerOf, twoOperations, operationsAt, operationsIn};
+ghost use Rattle.work.specs.Columns.{matchItem};
+ghost use Rattle.detect.specs.Operation.{allPlaces, written, Put};
+ghost use Rattle.detect.specs.Emit.{rotated, rotationsOf, twoOperations, operationsAt, operationsIn};
 ghost use Rattle.detect.specs.Records.{ItemThere, Held};
+ghost use Rattle.detect.specs.Kept.{KeptAt, Kept};
 use crate::count::is_item;
-use crate::count::oriented;
+use crate::places::KEPT;
+use crate::places::OP_PLACES;
+use crate::places::copy;
+use crate::places::interaction_places;
+use crate::places::one_places;
+use crate::places::put;
 use fuse::matrix2;
 use fuse::matrix4;
-use gate::Complex;
 use gate::Mat4;
 use majorana::Rotation;
 use majorana::interaction;
 use majorana::majorana_map1;
-use majorana::majorana_map2;
 use majorana::phase_a;
 use majorana::phase_b;
 use majorana::rotation_of;
@@ -32,106 +37,6 @@ use work::ONE_ITEM;
 use work::OPAQUE_ITEM;
 use work::POS;
 use work::mark;
-
-// Places of an operation.
-pub const OP_PLACES: usize = 18;
-
-// ---- one operation
-
-// The places of a map of mode k.
-fn one_places(k: u32, q: Map2) -> [f64; 18]
-    ensures { λ r. ⌜ r ≡ onePlaces k q ⌝ }
-{
-    let k = k as f64;
-    [
-        1.0,
-        k,
-        q.r0.x0,
-        q.r0.x1,
-        q.r1.x0,
-        q.r1.x1,
-        0.0,
-        0.0,
-        0.0,
-        0.0,
-        0.0,
-        0.0,
-        0.0,
-        0.0,
-        0.0,
-        0.0,
-        0.0,
-        0.0,
-    ]
-}
-
-// The places of a map of the modes k and k + 1.
-fn two_places(k: u32, q: Map4) -> [f64; 18]
-    ensures { λ r. ⌜ r ≡ twoPlaces k q ⌝ }
-{
-    let k = k as f64;
-    [
-        2.0,
-        k,
-        q.r0.x0,
-        q.r0.x1,
-        q.r0.x2,
-        q.r0.x3,
-        q.r1.x0,
-        q.r1.x1,
-        q.r1.x2,
-        q.r1.x3,
-        q.r2.x0,
-        q.r2.x1,
-        q.r2.x2,
-        q.r2.x3,
-        q.r3.x0,
-        q.r3.x1,
-        q.r3.x2,
-        q.r3.x3,
-    ]
-}
-
-// The places of an interaction of the modes i and j.
-fn interaction_places(i: u32, block: u32, j: u32, w: Complex) -> [f64; 18]
-    ensures { λ r. ⌜ r ≡ interactionPlaces i block j w ⌝ }
-{
-    let i = i as f64;
-    let block = block as f64;
-    let j = j as f64;
-    [
-        3.0,
-        i,
-        block,
-        j,
-        w.re,
-        w.im,
-        0.0,
-        0.0,
-        0.0,
-        0.0,
-        0.0,
-        0.0,
-        0.0,
-        0.0,
-        0.0,
-        0.0,
-        0.0,
-        0.0,
-    ]
-}
-
-// Writes an operation's places from p on.
-fn put(ops: &mut [f64], p: usize, x: [f64; 18])
-    requires { ⌜ (p + opPlaces ≤ length (now ops)) × (length x ≡ opPlaces) ⌝ }
-    ensures { λ _. ⌜ now (ops .exit) ≡ paste (now (ops .entry)) p x opPlaces ⌝ }
-{
-    let mut k = 0;
-    while k < OP_PLACES {
-        ops[p + k] = x[k];
-        k += 1;
-    }
-}
 
 // ---- one item: each function writes from p on and answers where it ends
 
@@ -158,26 +63,12 @@ fn put_rotations(ops: &mut [f64], p: usize, i: u32, j: u32, v: Mat4) -> usize
     put_rotation(ops, q, j, rotation_of(phase_b(v)))
 }
 
-// The lower of two modes.
-fn lower(i: u32, j: u32) -> u32
-    ensures { λ r. ⌜ r ≡ lowerOf i j ⌝ }
-{
-    if i < j {
-        return i;
-    }
-    j
-}
-
-// A block on the modes i and j.
+// A block on the modes i and j that is no matchgate.
 fn put_two(ops: &mut [f64], p: usize, block: u32, kind: u32, i: u32, j: u32, v: Mat4) -> usize
+    requires { ⌜ kind ≢ matchItem ⌝ }
     requires { ⌜ p + length (allPlaces (twoOperations block kind i j v)) ≤ length (now ops) ⌝ }
     ensures { λ r. ⌜ Put (twoOperations block kind i j v) p (now (ops .entry)) (now (ops .exit)) r ⌝ }
 {
-    if kind == MATCH_ITEM {
-        let m = majorana_map2(oriented(i, j, v));
-        put(ops, p, two_places(lower(i, j), m.q));
-        return p + OP_PLACES;
-    }
     if kind == DIAGONAL_ITEM {
         return put_rotations(ops, p, i, j, v);
     }
@@ -203,13 +94,17 @@ fn put_item(
     ops: &mut [f64],
     p: usize,
 ) -> usize
-    requires { ⌜ ItemThere (now w) (now u) i n ⌝ }
+    requires { ⌜ ItemThere (now w) (now u) i n × KeptAt (now w) (now u) i ⌝ }
     requires { ⌜ p + length (allPlaces (operationsAt (now w) (now u) block i)) ≤ length (now ops) ⌝ }
     ensures { λ r. ⌜ Put (operationsAt (now (w .entry)) (now (u .entry)) block i) p (now (ops .entry)) (now (ops .exit)) r ⌝ }
 {
     let kind = mark(u, i, KIND);
     if kind == OPAQUE_ITEM {
         return p;
+    }
+    if kind == MATCH_ITEM {
+        copy(w, 64 * i + KEPT, ops, p);
+        return p + OP_PLACES;
     }
     let a = mark(u, i, A);
     let k = mark(u, a as usize, POS);
@@ -223,9 +118,9 @@ fn put_item(
     put_two(ops, p, block, kind, k, j, matrix4(w, i))
 }
 
-// The items of the first m records, on n wires.
+// The items of the first m records, on n wires; the operations of the matchgates are in their records.
 pub fn emit_all(w: &[f64], u: &[u32], m: usize, n: usize, ops: &mut [f64])
-    requires { ⌜ Held (now w) (now u) m n ⌝ }
+    requires { ⌜ Held (now w) (now u) m n × Kept (now w) (now u) m ⌝ }
     requires { ⌜ length (allPlaces (operationsIn (now w) (now u) m)) ≤ length (now ops) ⌝ }
     ensures { λ _. ⌜ now (ops .exit) ≡ written (operationsIn (now (w .entry)) (now (u .entry)) m) (now (ops .entry)) ⌝ }
 {

@@ -1,6 +1,7 @@
 // The detector's end (`compile` of the original's detect.rs, from the items on): the report, the
 // operations, and the public `compile`, by the questions 1 to 10.
 
+mod places; // the places of an operation
 mod count; // each item's share of the report, and their sum
 mod emit; // the operations
 mod tables; // order, path starts and modes as tables
@@ -9,8 +10,8 @@ mod program; // the report of an accepted tape
 mod questions; // the questions 1 to 10
 
 pub use count::Counts;
-pub use emit::OP_PLACES;
 pub use emit::emit_all;
+pub use places::OP_PLACES;
 pub use program::detect;
 pub use questions::clear_floats;
 pub use questions::clear_marks;

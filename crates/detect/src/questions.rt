@@ -11,10 +11,11 @@ ghost use Rattle.fuse.specs.Slotted.{Gates};
 ghost use Rattle.detect.specs.Operation.{allPlaces, written};
 ghost use Rattle.detect.specs.Emit.{operationsIn};
 ghost use Rattle.detect.specs.Records.{Held};
+ghost use Rattle.detect.specs.Kept.{Kept};
 ghost use Rattle.detect.specs.Compile.{floatsOf, marksOf, answerOf, writtenOf, reportedOf, programOf, checkedAnswer, checkedLent, checkedOps, Lent};
 ghost use Rattle.detect.specs.Compile.{compiled, compiledWork, compiledMarks, compiledOps};
-use crate::emit::OP_PLACES;
 use crate::emit::emit_all;
+use crate::places::OP_PLACES;
 use crate::program::detect;
 use crate::report::Answer;
 use crate::report::Compiled;
@@ -46,7 +47,8 @@ pub fn clear_marks(u: &mut [u32])
 
 // The operations of the first m records, if no block is bad.
 fn emit(free: bool, w: &[f64], u: &[u32], m: usize, n: usize, ops: &mut [f64])
-    requires { ⌜ Held (now w) (now u) m n × (free ≡ true → length (allPlaces (operationsIn (now w) (now u) m)) ≤ length (now ops)) ⌝ }
+    requires { ⌜ Held (now w) (now u) m n × (free ≡ true → Kept (now w) (now u) m) ⌝ }
+    requires { ⌜ (free ≡ true → length (allPlaces (operationsIn (now w) (now u) m)) ≤ length (now ops)) ⌝ }
     ensures { λ _. ⌜ now (ops .exit) ≡ cond free (written (operationsIn (now (w .entry)) (now (u .entry)) m) (now (ops .entry))) (now (ops .entry)) ⌝ }
 {
     if free {

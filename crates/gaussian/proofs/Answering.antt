@@ -15,6 +15,7 @@ use Rattle.detect.specs.declared.report.Report.{Report}
 use Rattle.detect.specs.Operation.{opPlaces, allPlaces, written}
 use Rattle.detect.specs.Emit.{operationsIn}
 use Rattle.detect.specs.Report.{reportOf}
+use Rattle.detect.specs.Kept.{Kept}
 use Rattle.detect.specs.Compile.{tallyOf, reportedOf, programOf}
 use Rattle.detect.specs.Program.{Detected}
 use Rattle.detect.proofs.Placing.{length-placed}
@@ -74,6 +75,10 @@ module _ (h : Header) (c : Content) (g : ℕ) (xs ys : List Float) (us vs : List
 
     pub emits-room : length (allPlaces (operationsIn ys vs (g + h .n))) ≤ o
     emits-room = emits-fit h (c .gates) g xs ys us vs r d o (passes .operations) free
+
+    -- the operations of the matchgates are in their records
+    pub emits-kept : Kept ys vs (g + h .n)
+    emits-kept = d .kept free
 
     -- there is room for what is read back
     pub runs-room : (ops ops′ : List Float) → o ≡ length ops → ops′ ≡ written (operationsIn ys vs (g + h .n)) ops → opPlaces * r .operations ≤ length ops′

@@ -48,11 +48,11 @@ put-item-requires c κs =
     let l = k .before .before .loop in
     let s = k .before .before .before .before .before .before in
     let a = s .args in
-    let h = s .pre .0 in
+    let h = s .pre .0 .0 in
     let t = k .before .loop-test .taken in
     let pos = modesIn (a .u .now) in
     let is = rw (k .mark .ensures) at (sym (c .before .before .is-item .ensures) ∙ c .before .if1 .taken) in (
-      (omega (arith, h .floats, t), omega (arith, h .marks, t), h .modes, below-at (a .w .now) (a .u .now) (a .n) (a .m) (l .i) (h .below) t is),
+      ((omega (arith, h .floats, t), omega (arith, h .marks, t), h .modes, below-at (a .w .now) (a .u .now) (a .n) (a .m) (l .i) (h .below) t is), s .pre .0 .1 (l .i) t),
       rw (l .inv .2) (next-room 0 (a .ops .now) (emitted (a .w .now) (a .u .now) pos (l .i)) (itemOperations pos (length (itemsIn (a .w .now) (a .u .now) (l .i))) (recordItem (a .w .now) (a .u .now) (l .i))) (omega (arith, room (c .before))) (l .ops) (l .p) (l .inv .1)),
     )
 
@@ -61,7 +61,7 @@ add-block c =
     let k = c .before .before .before .before .before .before in
     let l = k .before .before .loop in
     let s = k .before .before .before .before .before .before in
-    omega (arith, l .inv .2, items-few (s .args .w .now) (s .args .u .now) (l .i), l .inv .0, s .pre .0 .few)
+    omega (arith, l .inv .2, items-few (s .args .w .now) (s .args .u .now) (l .i), l .inv .0, s .pre .0 .0 .few)
 
 loop-again : tie.Need-loop-again Inv-loop μ-loop
 loop-again c =
@@ -97,11 +97,11 @@ emit-all-spec =
     Inv-loop
     μ-loop
     loop-holds
-    (λ c κs. omega (arith, c .loop-test .taken, c .before .before .before .before .before .pre .0 .marks))
+    (λ c κs. omega (arith, c .loop-test .taken, c .before .before .before .before .before .pre .0 .0 .marks))
     (λ c κs. tt)
     put-item-requires
     add-block
-    (λ c. omega (arith, c .before .before .before .loop-test .taken, c .before .before .before .before .before .before .before .before .pre .0 .few))
+    (λ c. omega (arith, c .before .before .before .loop-test .taken, c .before .before .before .before .before .before .before .before .pre .0 .0 .few))
     (λ c. omega (arith, c .before .before .before .loop-test .taken))
     loop-again
     (λ c. c .before .loop .inv .3)

@@ -6,120 +6,91 @@ use native.Mathlib.Omega.{arith}
 use borrow.Author.Needs.{needs}
 use lib.ListN.{length}
 use Rattle.majorana.specs.Diagonal.{interactionOf, unitOf}
-use Rattle.majorana.specs.Majorana.{majoranaMap2Of}
-use Rattle.detect.specs.Operation.{two, interaction, twoPlaces, placesOf, allPlaces, Put}
-use Rattle.detect.specs.Emit.{orientedOf, lowerOf, rotationsOf, twoOperations}
+use Rattle.detect.specs.Operation.{interaction, placesOf, allPlaces, Put}
+use Rattle.detect.specs.Emit.{rotationsOf, twoOperations}
 use Rattle.detect.proofs.Placing.{put-none, put-one, put-length, one-long, first-room, next-room, put-both}
-use Rattle.detect.proofs.Emitting.{two-match, two-diagonal, two-interaction, two-neither}
+use Rattle.detect.proofs.Emitting.{two-diagonal, two-interaction, two-neither}
 use Rattle.detect.proofs.emit.put_two.Statement.{statement}
 use Rattle.detect.proofs.emit.put_two.Tie as tie
-
-put-requires : tie.Need-put-requires
-put-requires c κs =
-    let k = c .before .before .before .before .before in
-    let s = k .before .before in
-    let a = s .args in
-    let e = two-match (a .block) (a .kind) (a .i) (a .j) (a .v) (k .if1 .taken) in (
-      omega (arith, s .pre, ap (λ os. length (allPlaces os)) e, one-long (two (lowerOf (a .i) (a .j)) (majoranaMap2Of (orientedOf (a .i) (a .j) (a .v)) .q))),
-      ap length (c .two-places .ensures),
-    )
-
-returns : tie.Need-returns
-unfolding placesOf
-returns c =
-    let f = c .before .before in
-    let t = f .before in
-    let k = t .before .before .before .before .before in
-    let a = k .before .before .args in
-    rw (two-match (a .block) (a .kind) (a .i) (a .j) (a .v) (k .if1 .taken))
-    (put-one (a .p) (a .ops .now) (two (lowerOf (a .i) (a .j)) (majoranaMap2Of (orientedOf (a .i) (a .j) (a .v)) .q)) (f .put .last .0) (t .two-places .result)
-    (t .two-places .ensures ∙ rw (t .before .lower .ensures, t .before .before .before .majorana-map2 .ensures, t .before .before .before .before .oriented .ensures)) (f .put .ensures))
 
 put-rotations-requires : tie.Need-put-rotations-requires
 put-rotations-requires c κs =
     let k = c .before in
-    let s = k .before .before .before in
+    let s = k .before .before in
     let a = s .args in
-    rw (two-diagonal (a .block) (a .kind) (a .i) (a .j) (a .v) (k .if2 .taken)) at (s .pre)
+    rw (two-diagonal (a .block) (a .kind) (a .i) (a .j) (a .v) (k .if1 .taken)) at (s .pre .1)
 
-returns-2 : tie.Need-returns-2
-returns-2 c =
+returns : tie.Need-returns
+returns c =
     let f = c .before .before in
     let k = f .before .before in
-    let a = k .before .before .before .args in
-    rw (two-diagonal (a .block) (a .kind) (a .i) (a .j) (a .v) (k .if2 .taken)) (f .put-rotations .ensures)
+    let a = k .before .before .args in
+    rw (two-diagonal (a .block) (a .kind) (a .i) (a .j) (a .v) (k .if1 .taken)) (f .put-rotations .ensures)
 
 put-rotations-requires-2 : tie.Need-put-rotations-requires-2
 put-rotations-requires-2 c κs =
     let k = c .before in
-    let s = k .before .before .before .before in
+    let s = k .before .before .before in
     let a = s .args in
     let w = interaction (a .i) (a .block) (a .j) (unitOf (interactionOf (a .v))) in
     first-room (a .p) (a .ops .now) (rotationsOf (a .i) (a .j) (a .v)) (w ∷ [])
-    (rw (two-interaction (a .block) (a .kind) (a .i) (a .j) (a .v) (k .if3 .taken)) at (s .pre))
+    (rw (two-interaction (a .block) (a .kind) (a .i) (a .j) (a .v) (k .if2 .taken)) at (s .pre .1))
 
-put-requires-2 : tie.Need-put-requires-2
-put-requires-2 c κs =
+put-requires : tie.Need-put-requires
+put-requires c κs =
     let f = c .before .before .before .before .before .before in
     let k = f .before .before in
-    let s = k .before .before .before .before in
+    let s = k .before .before .before in
     let a = s .args in
     let w = interaction (a .i) (a .block) (a .j) (unitOf (interactionOf (a .v))) in
-    let room = next-room (a .p) (a .ops .now) (rotationsOf (a .i) (a .j) (a .v)) (w ∷ []) (rw (two-interaction (a .block) (a .kind) (a .i) (a .j) (a .v) (k .if3 .taken)) at (s .pre)) (f .put-rotations2 .last .0) (f .put-rotations2 .result) (f .put-rotations2 .ensures) in
+    let room = next-room (a .p) (a .ops .now) (rotationsOf (a .i) (a .j) (a .v)) (w ∷ []) (rw (two-interaction (a .block) (a .kind) (a .i) (a .j) (a .v) (k .if2 .taken)) at (s .pre .1)) (f .put-rotations2 .last .0) (f .put-rotations2 .result) (f .put-rotations2 .ensures) in
     (omega (arith, room, one-long w), ap length (c .interaction-places .ensures))
 
-add-result-2 : tie.Need-add-result-2
-add-result-2 c =
+add-result : tie.Need-add-result
+add-result c =
     let i = c .before .before .before in
     let f = i .before .before .before .before .before .before in
     let k = f .before .before in
-    let s = k .before .before .before .before in
+    let s = k .before .before .before in
     let a = s .args in
     let w = interaction (a .i) (a .block) (a .j) (unitOf (interactionOf (a .v))) in
-    let room = next-room (a .p) (a .ops .now) (rotationsOf (a .i) (a .j) (a .v)) (w ∷ []) (rw (two-interaction (a .block) (a .kind) (a .i) (a .j) (a .v) (k .if3 .taken)) at (s .pre)) (f .put-rotations2 .last .0) (f .put-rotations2 .result) (f .put-rotations2 .ensures) in
+    let room = next-room (a .p) (a .ops .now) (rotationsOf (a .i) (a .j) (a .v)) (w ∷ []) (rw (two-interaction (a .block) (a .kind) (a .i) (a .j) (a .v) (k .if2 .taken)) at (s .pre .1)) (f .put-rotations2 .last .0) (f .put-rotations2 .result) (f .put-rotations2 .ensures) in
     omega (arith, room, one-long w, s .good .0, put-length (a .p) (a .ops .now) (rotationsOf (a .i) (a .j) (a .v)) (f .put-rotations2 .last .0) (f .put-rotations2 .result) (f .put-rotations2 .ensures) (put-rotations-requires-2 (f .before) (f .put-rotations2 .lifetimes)))
 
-returns-3 : tie.Need-returns-3
+returns-2 : tie.Need-returns-2
 unfolding placesOf
-returns-3 c =
+returns-2 c =
     let g = c .before .before in
     let i = g .before in
     let f = i .before .before .before .before .before .before in
     let k = f .before .before in
-    let s = k .before .before .before .before in
+    let s = k .before .before .before in
     let a = s .args in
     let w = interaction (a .i) (a .block) (a .j) (unitOf (interactionOf (a .v))) in
-    let e = two-interaction (a .block) (a .kind) (a .i) (a .j) (a .v) (k .if3 .taken) in
+    let e = two-interaction (a .block) (a .kind) (a .i) (a .j) (a .v) (k .if2 .taken) in
     rw e
-    (put-both (a .p) (a .ops .now) (rotationsOf (a .i) (a .j) (a .v)) (w ∷ []) (rw e at (s .pre)) (f .put-rotations2 .last .0) (g .put2 .last .0) (f .put-rotations2 .result) (f .put-rotations2 .result + 18) (f .put-rotations2 .ensures)
-    (put-one (f .put-rotations2 .result) (f .put-rotations2 .last .0) w (g .put2 .last .0) (i .interaction-places .result) (i .interaction-places .ensures ∙ rw (i .before .unit .ensures, i .before .before .interaction .ensures)) (g .put2 .ensures)))
+    (put-both (a .p) (a .ops .now) (rotationsOf (a .i) (a .j) (a .v)) (w ∷ []) (rw e at (s .pre .1)) (f .put-rotations2 .last .0) (g .put .last .0) (f .put-rotations2 .result) (f .put-rotations2 .result + 18) (f .put-rotations2 .ensures)
+    (put-one (f .put-rotations2 .result) (f .put-rotations2 .last .0) w (g .put .last .0) (i .interaction-places .result) (i .interaction-places .ensures ∙ rw (i .before .unit .ensures, i .before .before .interaction .ensures)) (g .put .ensures)))
 
-returns-4 : tie.Need-returns-4
-returns-4 c =
-    let a = c .before .before .before .before .args in
-    rw (two-neither (a .block) (a .kind) (a .i) (a .j) (a .v) (c .before .before .if1 .left) (c .before .if2 .left) (c .if3 .left)) (put-none (a .p) (a .ops .now))
+returns-3 : tie.Need-returns-3
+returns-3 c =
+    let s = c .before .before .before in
+    let a = s .args in
+    rw (two-neither (a .block) (a .kind) (a .i) (a .j) (a .v) (s .pre .0) (c .before .if1 .left) (c .if2 .left)) (put-none (a .p) (a .ops .now))
 
 pub put-two-spec : {M : Type 1} → statement M
 put-two-spec =
     tie.close
     (tie.spec
-    (λ c κs. tt)
-    (λ c κs. tt)
-    (λ c κs. tt)
-    (λ c κs. tt)
-    put-requires
-    (λ c. search needs)
-    (λ c. search needs)
-    returns
     put-rotations-requires
     (λ c. search needs)
-    returns-2
+    returns
     put-rotations-requires-2
     (λ c κs. tt)
     (λ c κs. tt)
     (λ c κs. tt)
-    put-requires-2
-    add-result-2
+    put-requires
+    add-result
     (λ c. search needs)
-    returns-3
-    returns-4)
+    returns-2
+    returns-3)

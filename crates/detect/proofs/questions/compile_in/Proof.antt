@@ -49,7 +49,7 @@ emit-requires c κs =
     let s = d .before .before .before .before .before .before .before in
     let a = s .args in
     let p = d .detect .ensures in (
-      p .held,
+      (p .held, p .kept),
       emits-fit (a .h) (gatesOf (a .tape .now)) (a .g) (a .w .now) (d .detect .last .1 .1 .1 .0) (a .u .now) (d .detect .last .1 .1 .1 .1 .0) (d .detect .result) p (length (a .ops .now)) (e .if1 .left),
     )
 

@@ -6,7 +6,8 @@ use Rattle.detect.proofs.questions.emit.Tie as tie
 emit-all-requires : tie.Need-emit-all-requires
 emit-all-requires c κs =
     let s = c .before .before .before .before .before in
-    (s .pre .0, s .pre .1 (c .before .if1 .taken))
+    let free = c .before .if1 .taken in
+    ((s .pre .0 .0, s .pre .0 .1 free), s .pre .1 free)
 
 returns : tie.Need-returns
 returns c =

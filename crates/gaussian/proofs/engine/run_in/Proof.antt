@@ -9,7 +9,7 @@ use Rattle.tape.specs.Parse.{contentOf, parse}
 use Rattle.detect.specs.Compile.{done}
 use Rattle.detect.proofs.Answering.{filled-whole}
 use Rattle.gaussian.specs.Run.{answerOf, opsAfter, stateAfter}
-use Rattle.gaussian.proofs.Answering.{told-no, told-yes, passes, emits-room, runs-room, program-written, program-run}
+use Rattle.gaussian.proofs.Answering.{told-no, told-yes, passes, emits-kept, emits-room, runs-room, program-written, program-run}
 use Rattle.gaussian.proofs.engine.run_in.Statement.{statement}
 use Rattle.gaussian.proofs.engine.run_in.Tie as tie
 
@@ -53,7 +53,11 @@ emit-all-requires c κs =
     let ys = d .detect .last .1 .1 .1 .0 in
     let vs = d .detect .last .1 .1 .1 .1 .0 in
     let p = d .detect .ensures in (
-      p .held,
+      (
+        p .held,
+        emits-kept (a .h) (contentOf (parse (a .tape .now))) (a .g) (a .w .now) ys (a .u .now) vs (d .detect .result) p (length (a .ops .now)) (length (a .state .now))
+            (v .verdict .result) (v .verdict .ensures) (e .if1 .left),
+      ),
       emits-room (a .h) (contentOf (parse (a .tape .now))) (a .g) (a .w .now) ys (a .u .now) vs (d .detect .result) p (length (a .ops .now)) (length (a .state .now))
           (v .verdict .result) (v .verdict .ensures) (e .if1 .left),
     )

@@ -1,6 +1,6 @@
 use borrow.Author.Tests.{lt-ltb, le-ltb}
-use Rattle.detect.proofs.emit.lower.Statement.{statement}
-use Rattle.detect.proofs.emit.lower.Tie as tie
+use Rattle.detect.proofs.count.lower.Statement.{statement}
+use Rattle.detect.proofs.count.lower.Tie as tie
 
 returns : tie.Need-returns
 returns c = rw (lt-ltb _ _ (c .if1 .taken))

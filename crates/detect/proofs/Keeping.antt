@@ -1,0 +1,205 @@
+-- What counting keeps: an operation is written beside the places of the items, so the items stay; and as long as nothing is bad every matchgate's is there.
+-- Assumes nothing.
+use mathlib.Core.Path.{_≡_, refl, sym, ap, _∙_, subst}
+use mathlib.Core.Logic.{_⊎_, inl, inr, _≢_}
+use mathlib.Core.Bool.{Bool, true, false, cond, true≢false}
+use mathlib.Core.List.{List, [], _∷_, _++_, append-assoc}
+use Prim.Native.Nat.{ℕ, _+_, _*_, _≤_, _<_}
+use native.Mathlib.Omega.{arith}
+use lib.Dec.{eqb}
+use lib.ListN.{length, getD, take, drop, length-drop}
+use lib.Seq.{paste, length-paste, length-take-le, take-all, take-at, drop-at, drop-drop, ext-getD}
+use lib.Ieee.{Float, nan}
+use borrow.Author.Tests.{eq-eqb, ne-eqb}
+use borrow.Rule.Slice.PartMut.{putMid}
+use Rattle.laws.proofs.Cases.{lt-or-le, eq-or-ne}
+use Rattle.laws.proofs.Slices.{part-at, length-put, put-before, put-after}
+use Rattle.gate.proofs.Stored.{mat2-alike, mat4-alike}
+use Rattle.gate.specs.declared.matrix.Mat4.{Mat4}
+use Rattle.work.specs.Marks.{markAt}
+use Rattle.work.specs.Columns.{kindColumn, aColumn, bColumn}
+use Rattle.order.specs.Arrangement.{besideOf}
+use Rattle.fuse.specs.Layout.{matrix4Of}
+use Rattle.majorana.specs.Majorana.{majoranaMap2Of}
+use Rattle.resolve.specs.Slots.{itemAt}
+use Rattle.resolve.proofs.Records.{newest-same, item-alike}
+use Rattle.detect.specs.declared.count.Counts.{Counts}
+use Rattle.detect.specs.Counts.{apart, adjacentShare, matchShare, twoShare, plusOf, shareOf}
+use Rattle.detect.specs.Emit.{orientedOf}
+use Rattle.detect.specs.Records.{isItemOf, recordItem, itemsIn, modesIn, Held}
+use Rattle.detect.specs.Kept.{matchPlaces, keptPlace, matchKept, twoKept, recordKept, KeptAt, Kept, Counted}
+
+-- ---- floats that are the same where the items are
+
+abbrev Alike : List Float → List Float → Type 0
+Alike xs ys = (i q : ℕ) → 64 * i ≤ q → q < 64 * i + 33 → getD ys q nan ≡ getD xs q nan
+
+module _ (xs ys : List Float) (us : List ℕ) (same : Alike xs ys) where
+  matrix-stays : (i : ℕ) → matrix4Of ys i ≡ matrix4Of xs i
+  matrix-stays i = mat4-alike xs ys (64 * i) (λ q a b. same i q a (omega arith))
+
+  pub record-stays : (i : ℕ) → recordItem ys us i ≡ recordItem xs us i
+  record-stays i = rw (mat2-alike xs ys (64 * i) (λ q a b. same i q a (omega arith)), matrix-stays i, same i (64 * i + 32) (omega arith) (omega arith))
+
+  pub items-keep : (m : ℕ) → itemsIn ys us m ≡ itemsIn xs us m
+  items-keep m = newest-same (itemAt xs us) (itemAt ys us) m (λ j l. item-alike xs ys us us j refl refl refl (same j))
+
+-- what is read of the items stays, once they are counted
+pub held-counted : (xs : List Float) (us : List ℕ) (c : Counts) (ys : List Float) (m : ℕ) → Counted c xs ys us m → (n : ℕ) → Held xs us m n → Held ys us m n
+held-counted xs us c ys m k n h = record {
+  floats = omega (arith, h .floats, k .size);
+  marks = h .marks;
+  modes = h .modes;
+  few = h .few;
+  below = rw (items-keep xs ys us (k .same) m) (h .below);
+}
+
+-- ---- an operation written from p on
+
+module _ (p : ℕ) (l x : List Float) (long : length x ≡ 18) (fit : p + 18 ≤ length l) where
+  paste-mid : paste l p x 18 ≡ putMid p 18 l x
+  paste-mid =
+      append-assoc (take p l) (take 18 x) (drop (p + 18) l)
+      ∙ ap (λ y. take p l ++ (y ++ drop (p + 18) l)) (take-all 18 x (omega (arith, long)))
+      ∙ ap (λ r. take p l ++ (x ++ r)) (sym (drop-drop 18 p l))
+
+  paste-size : length (paste l p x 18) ≡ length l
+  paste-size = ap length paste-mid ∙ length-put p 18 l x nan fit long
+
+  -- a place that it is not written to
+  paste-stays : (q : ℕ) → (q < p) ⊎ (p + 18 ≤ q) → getD (paste l p x 18) q nan ≡ getD l q nan
+  paste-stays q (inl h) = ap (λ y. getD y q nan) paste-mid ∙ put-before p 18 l x nan fit long q h
+  paste-stays q (inr h) = ap (λ y. getD y q nan) paste-mid ∙ put-after p 18 l x nan fit long q h
+
+  -- it is there
+  paste-there : take 18 (drop p (paste l p x 18)) ≡ x
+  paste-there =
+      ap (λ y. take 18 (drop p y)) paste-mid
+      ∙ ap (take 18) (drop-at (take p l) (x ++ drop 18 (drop p l)) p (length-take-le p l (omega arith)))
+      ∙ take-at x (drop 18 (drop p l)) 18 long
+
+-- 18 places that stay
+window-stays : (a : ℕ) (l m : List Float) → length m ≡ length l → a + 18 ≤ length l → ((q : ℕ) → a ≤ q → q < a + 18 → getD m q nan ≡ getD l q nan)
+    → take 18 (drop a m) ≡ take 18 (drop a l)
+window-stays a l m e fit h =
+    let long : (k : List Float) → a + 18 ≤ length k → length (take 18 (drop a k)) ≡ 18 = λ k f. length-take-le 18 (drop a k) (omega (arith, length-drop a k)) in
+    let lm = long m (omega (arith, e)) in
+    ext-getD nan (take 18 (drop a m)) (take 18 (drop a l)) (lm ∙ sym (long l fit))
+    (λ i b. part-at a 18 m nan i (omega (arith, lm)) ∙ h (a + i) (omega arith) (omega (arith, lm)) ∙ sym (part-at a 18 l nan i (omega (arith, lm))))
+
+-- ---- one record more
+
+module _ (xs : List Float) (us : List ℕ) where
+  -- nothing is kept before the first
+  pub counted-none : (c : Counts) → Counted c xs xs us 0
+  counted-none c = record { size = refl; same = λ i q a b. refl; kept = λ z i l. absurd (omega arith) }
+
+  module _ (c : Counts) (ys : List Float) (i : ℕ) (old : Counted c xs ys us i) where
+    -- a record that is no matchgate's
+    other : (markAt us i kindColumn ≢ 5) → Kept ys us i → Kept ys us (i + 1)
+    other n h j l = by (eq-or-ne j i)
+      where
+        by : (j ≡ i) ⊎ (j ≢ i) → KeptAt ys us j
+        by (inl e) q = absurd (n (ap (λ j. markAt us j kindColumn) (sym e) ∙ q))
+        by (inr e) q = h j (omega (arith, e)) q
+
+    pub counted-same : isItemOf (markAt us i kindColumn) ≡ false → Counted c xs ys us (i + 1)
+    counted-same e = record {
+      size = old .size;
+      same = old .same;
+      kept = λ z. other (λ q. true≢false (sym (ap isItemOf q) ∙ e)) (old .kept z);
+    }
+
+    module _ (tol : Float) (fit : 64 * i + 64 ≤ length ys) where
+      abbrev first : ℕ
+      first = modesIn us (markAt us i aColumn)
+
+      abbrev second : ℕ
+      second = modesIn us (markAt us i bColumn)
+
+      abbrev share : Counts
+      share = shareOf tol (modesIn us) (recordItem ys us i)
+
+      -- no matchgate
+      plain : (markAt us i kindColumn ≢ 5) → Counted (plusOf c share) xs (recordKept ys us i) us (i + 1)
+      unfolding twoKept plusOf
+      plain n = rw (ne-eqb (markAt us i kindColumn) 5 n) (record {
+        size = old .size;
+        same = old .same;
+        kept = λ z. other n (old .kept (omega (arith, z)));
+      })
+
+      module _ (e : markAt us i kindColumn ≡ 5) where
+        -- a matchgate whose modes are not neighbours is bad
+        apart-bad : besideOf first second ≡ false → share .bad ≡ 1
+        unfolding twoShare matchShare
+        apart-bad b = rw (e, b) refl
+
+        apart-same : besideOf first second ≡ false → recordKept ys us i ≡ ys
+        unfolding twoKept matchKept
+        apart-same b = rw (e, b) refl
+
+        bad-more : besideOf first second ≡ false → Counted (plusOf c share) xs (recordKept ys us i) us (i + 1)
+        unfolding plusOf
+        bad-more b = subst (λ l. Counted (plusOf c share) xs l us (i + 1)) (sym (apart-same b)) (record {
+          size = old .size;
+          same = old .same;
+          kept = λ z. absurd (omega (arith, z, apart-bad b));
+        })
+
+        -- the others' operations are written
+        abbrev op : List Float
+        op = matchPlaces first second (matrix4Of ys i)
+
+        abbrev new : List Float
+        new = paste ys (keptPlace i) op 18
+
+        beside-written : besideOf first second ≡ true → recordKept ys us i ≡ new
+        unfolding twoKept matchKept
+        beside-written b = rw (e, b) refl
+
+        outside : (j q : ℕ) → 64 * j ≤ q → q < 64 * j + 33 → (q < keptPlace i) ⊎ (keptPlace i + 18 ≤ q)
+        outside j q lo hi = by (lt-or-le q (keptPlace i)) (lt-or-le i j)
+          where
+            by : (q < keptPlace i) ⊎ (keptPlace i ≤ q) → (i < j) ⊎ (j ≤ i) → (q < keptPlace i) ⊎ (keptPlace i + 18 ≤ q)
+            by (inl h) g = inl h
+            by (inr h) (inl g) = inr (omega arith)
+            by (inr h) (inr g) = absurd (omega arith)
+
+        alike : Alike ys new
+        alike j q lo hi = paste-stays (keptPlace i) ys op refl (omega arith) q (outside j q lo hi)
+
+        kept-more : Kept ys us i → Kept new us (i + 1)
+        kept-more h j l k = by (eq-or-ne j i)
+          where
+            by : (j ≡ i) ⊎ (j ≢ i) → take 18 (drop (keptPlace j) new) ≡ matchPlaces (modesIn us (markAt us j aColumn)) (modesIn us (markAt us j bColumn)) (matrix4Of new j)
+            by (inl x) = rw (x, matrix-stays ys new us alike i) (paste-there (keptPlace i) ys op refl (omega arith))
+            by (inr x) =
+                rw (matrix-stays ys new us alike j)
+                (window-stays (keptPlace j) ys new (paste-size (keptPlace i) ys op refl (omega arith)) (omega (arith, x))
+                (λ q lo hi. paste-stays (keptPlace i) ys op refl (omega arith) q (inl (omega (arith, x))))
+                ∙ h j (omega (arith, x)) k)
+
+        good-more : besideOf first second ≡ true → Counted (plusOf c share) xs (recordKept ys us i) us (i + 1)
+        unfolding plusOf
+        good-more b = subst (λ l. Counted (plusOf c share) xs l us (i + 1)) (sym (beside-written b)) (record {
+          size = paste-size (keptPlace i) ys op refl (omega arith) ∙ old .size;
+          same = λ j q lo hi. alike j q lo hi ∙ old .same j q lo hi;
+          kept = λ z. kept-more (old .kept (omega (arith, z)));
+        })
+
+      pub counted-more : Counted (plusOf c share) xs (recordKept ys us i) us (i + 1)
+      counted-more = by (eq-or-ne (markAt us i kindColumn) 5)
+        where
+          either : (markAt us i kindColumn ≡ 5) → (t : Bool) → besideOf first second ≡ t → Counted (plusOf c share) xs (recordKept ys us i) us (i + 1)
+          either e true b = good-more e b
+          either e false b = bad-more e b
+
+          by : (markAt us i kindColumn ≡ 5) ⊎ (markAt us i kindColumn ≢ 5) → Counted (plusOf c share) xs (recordKept ys us i) us (i + 1)
+          by (inl e) = either e (besideOf first second) refl
+          by (inr n) = plain n
+
+      -- as a turn of the loop has it
+      pub counted-turn : (s c′ : Counts) (zs : List Float) → s ≡ share → c′ ≡ plusOf c s → zs ≡ recordKept ys us i → Counted c′ xs zs us (i + 1)
+      counted-turn s c′ zs e f g =
+          subst (λ l. Counted c′ xs l us (i + 1)) (sym g) (subst (λ d. Counted d xs (recordKept ys us i) us (i + 1)) (sym (f ∙ ap (plusOf c) e)) counted-more)
