@@ -8,4 +8,5 @@ original_at "${1-}"
 build_bench
 "$BENCH" compare 100000 100000
 "$BENCH" compile 20000
+"$BENCH" runs 20000
 "$BENCH" time

@@ -28,15 +28,20 @@ impl Tally {
 
     /// Counts one call; the first that differs is printed.
     pub fn add(&mut self, operands: &[&[f64]], want: &[f64], got: &[f64]) {
+        let well = want.len() == got.len() && want.iter().zip(got).all(|(&w, &g)| same(w, g));
+        self.count(well, || {
+            let operands = texts(&operands.concat());
+            format!("{operands}\n  original{}\n  port    {}", texts(want), texts(got))
+        });
+    }
+
+    /// Counts one call; of the first that is not well, what is told is printed.
+    pub fn count(&mut self, well: bool, told: impl Fn() -> String) {
         self.compared += 1;
-        if want.len() == got.len() && want.iter().zip(got).all(|(&w, &g)| same(w, g)) {
-            return;
+        if !well && self.differ == 0 {
+            println!("{}:{}", self.name, told());
         }
-        if self.differ == 0 {
-            println!("{}:{}", self.name, texts(&operands.concat()));
-            println!("  original{}\n  port    {}", texts(want), texts(got));
-        }
-        self.differ += 1;
+        self.differ += usize::from(!well);
     }
 
     /// Prints the count; whether nothing differed.

@@ -1,75 +1,16 @@
 //! The public `compile`, from the tape to the report and the operations: port and original on random lists.
 
-use crate::port::{self, Report};
+use crate::lent::Lent;
 use oracle::compiled::answer::{answer, Compiled, PLACES};
 use oracle::compiled::graphs;
-use oracle::families::FAMILIES;
+use oracle::families::{phases, FAMILIES};
 use oracle::list::{List, RELABEL};
 use oracle::rng::Rng;
 use oracle::tape::tape;
 use original::gate::Gate;
 
-/// What stands in the lent slices before a call, and in the places that a call must leave alone.
-const OLD: u8 = 7;
-
 /// Lists of 128 wires and 1,024 blocks for each thousand of the others.
 const WIDE: usize = 2;
-
-// ---- the port's side
-
-/// Slices lent to the port, and its report.
-pub struct Lent {
-    work: Vec<f64>,
-    marks: Vec<u32>,
-    ops: Vec<f64>,
-    report: Report,
-}
-
-impl Lent {
-    /// For so many gates, qubits and operations; `more` places more than must be there.
-    pub fn new(gates: usize, n: usize, operations: usize, more: usize) -> Lent {
-        let records = gates + n;
-        Lent {
-            work: vec![OLD.into(); 64 * records + more],
-            marks: vec![OLD.into(); 32 * records + more],
-            ops: vec![OLD.into(); PLACES * operations + more],
-            report: Report { place: [1], words: [1; 14], measures: [1.0; 2], tables: [1; 384] },
-        }
-    }
-
-    pub fn compile(&mut self, tape: &[u8]) -> u64 {
-        port::compile(tape, &mut self.work, &mut self.marks, &mut self.ops, &mut self.report)
-    }
-
-    /// Whether work is zero but for its last places, and the last places of each slice are the old ones.
-    fn kept(&self, more: usize) -> bool {
-        let (zero, old) = self.work.split_at(self.work.len() - more);
-        let (none, mark) = self.marks.split_at(self.marks.len() - more);
-        let last = &self.ops[self.ops.len() - more..];
-        zero.iter().all(|x| x.to_bits() == 0)
-            && none.iter().all(|&x| x == 0)
-            && old.iter().chain(last).all(|&x| x == OLD.into())
-            && mark.iter().all(|&x| x == OLD.into())
-    }
-
-    /// The answer in the oracle's form; entries of tables from n on are left out if they are zero.
-    fn answer(&self, number: u64, n: usize, more: usize) -> Compiled {
-        let table = |k: usize| {
-            let (used, unused) = self.report.tables[128 * k..128 * (k + 1)].split_at(n);
-            let all = if unused.iter().all(|&x| x == 0) { used } else { unused };
-            all.iter().map(|&x| x.into()).collect()
-        };
-        Compiled {
-            refused: [number, self.report.place[0]],
-            report: self.report.words,
-            measures: self.report.measures,
-            tables: [table(0), table(1), table(2)],
-            ops: self.ops[..self.ops.len() - more].to_vec(),
-        }
-    }
-}
-
-// ---- comparison
 
 /// What was compared of a family.
 #[derive(Default)]
@@ -111,10 +52,10 @@ pub fn same(list: &List) -> bool {
 
 /// The port's answer with room for so many operations, and whether the slices are as they must be afterwards.
 fn ported(list: &List, operations: usize) -> (Compiled, bool) {
-    let (gates, more) = (list.gates.len(), list.gates.len() % 3);
-    let mut lent = Lent::new(gates, list.n, operations, more);
-    let number = lent.compile(&tape(list).expect("a tape"));
-    (lent.answer(number, list.n, more), lent.kept(more))
+    let gates = list.gates.len();
+    let mut lent = Lent::new(gates, list.n, operations, gates % 3);
+    let told = lent.compile(&tape(list).expect("a tape"));
+    (lent.compiled(&told, list.n), lent.kept(told.refused[0], false))
 }
 
 impl Counts {
@@ -174,6 +115,7 @@ pub fn compare(rng: &mut Rng, count: usize) -> bool {
     for (name, family) in FAMILIES {
         well &= family_of(name, count, || family(&mut rng.split()));
     }
+    well &= family_of("phases", count, || phases::make(&mut rng.split()));
     well &= family_of("graphs", count, || graphs::random_list(rng, false));
     well &= family_of("wide", (count * WIDE).div_ceil(1000), || graphs::random_list(rng, true));
     well & known_differences()

@@ -1,7 +1,8 @@
 //! The tapes on which `compile` is timed: as the original's circuit, and as the port's bytes.
 
 use crate::clock::least;
-use crate::compile::{same, Lent};
+use crate::compile::same;
+use crate::lent::Lent;
 use oracle::compiled::answer::{answer, PLACES};
 use oracle::families::pieces::xx;
 use oracle::list::{List, RELABEL, REORDER};
@@ -24,10 +25,10 @@ fn of(n: usize, gates: Vec<Gate>) -> List {
 }
 
 /// Layers of matchgates on neighbours, in turn on even and on odd pairs.
-fn brick_wall() -> List {
-    let pairs = |layer: usize| (layer % 2..QUBITS - 1).step_by(2);
+pub fn brick_wall(n: usize) -> List {
+    let pairs = |layer: usize| (layer % 2..n - 1).step_by(2);
     let gates = (0..).flat_map(pairs).map(|a| Gate::ISwap(a, a + 1)).take(GATES).collect();
-    of(QUBITS, gates)
+    of(n, gates)
 }
 
 /// Matchgates on random neighbours.
@@ -59,20 +60,20 @@ fn random_pairs(rng: &mut Rng) -> List {
 }
 
 /// Rotations by XX on random neighbours, each with a phase after it.
-fn rotations(rng: &mut Rng) -> List {
+pub fn rotations(rng: &mut Rng, n: usize) -> List {
     let mut gates = Vec::new();
     while gates.len() < GATES {
-        let a = rng.below(QUBITS - 1);
+        let a = rng.below(n - 1);
         gates.extend(xx(a, a + 1, rng.angle()));
         gates.push(Gate::Rz(a, rng.angle()));
     }
     gates.truncate(GATES);
-    of(QUBITS, gates)
+    of(n, gates)
 }
 
 /// The original takes vectors from the heap. Once a large block was freed, the allocator no longer gives pages back after each
 /// call, and the original's next call does not fault for them.
-fn warm_heap() {
+pub fn warm_heap() {
     drop(black_box(vec![1u8; 16 << 20]));
 }
 
@@ -94,15 +95,15 @@ pub fn cold(rng: &mut Rng, part: &str) {
 
 fn lists(rng: &mut Rng) -> [(&'static str, List); 5] {
     [
-        ("compile brick wall", brick_wall()),
+        ("compile brick wall", brick_wall(QUBITS)),
         ("compile random neighbours", random_neighbours(rng)),
         ("compile 28 blocks of 324 cuts", many_cuts(rng)),
-        ("compile rotations, phases", rotations(rng)),
+        ("compile rotations, phases", rotations(rng, QUBITS)),
         ("compile random pairs, n = 128", random_pairs(rng)),
     ]
 }
 
-fn head() {
+pub fn head() {
     println!("{:<30} {:>12} {:>12} {:>8}", "the least of many", "original ns", "port ns", "ratio");
 }
 

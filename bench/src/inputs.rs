@@ -4,6 +4,7 @@ use oracle::rng::Rng;
 use oracle::tape::{entries, NAMED2};
 use original::access::detect::access as detect;
 use original::gate::{Gate, Mat2, Mat4};
+use original::Complex64;
 
 const POSITIVE: u64 = u64::MAX >> 1;
 
@@ -111,7 +112,7 @@ pub fn block(rng: &mut Rng, kind: Block) -> [f64; 32] {
         Block::Matchgate => {
             let [[a, b], [c, d]] = turn(rng);
             let [[e, f], [g, h]] = turn(rng);
-            let z = a - a;
+            let z = Complex64::new(0.0, 0.0);
             [[a, z, z, b], [z, e, f, z], [z, g, h, z], [c, z, z, d]]
         }
     };

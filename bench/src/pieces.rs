@@ -43,7 +43,7 @@ pub fn table(seed: u64) {
     }
     let us: Vec<Flat4> = (0..CALLS).map(|_| matrix(rng, Kind::Dense)).collect();
     blocks("dense", &us);
-    crate::states::table(rng);
+    crate::state_times::table(rng);
 }
 
 /// Maps and classes of the blocks.

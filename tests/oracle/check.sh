@@ -11,6 +11,7 @@ build tests/oracle
 "$ORACLE" selftest 1 1000
 echo edges
 "$ORACLE" vector "$ROOT/tests/oracle/lists/edges.txt"
+"$ORACLE" reader "$ROOT"/crates/replay_tape/data/*.bin
 for family in $("$ORACLE" families); do
     echo "$family"
     "$ORACLE" random 1 "${2:-4000}" "$family" | "$ORACLE" vector -

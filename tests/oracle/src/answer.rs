@@ -2,6 +2,7 @@
 
 use crate::query::{index_text, Query};
 use crate::{bits, list::List};
+use original::access::state::GaussianState as AccessState;
 use original::circuit::SimError;
 use original::engines::gaussian::state::GaussianState;
 use rand::Draws;
@@ -20,19 +21,41 @@ const BITS_MATCH: u8 = 18;
 /// Every listed qubit below n: question 19.
 const QUBITS_EXIST: u8 = 19;
 
-/// Puts one query to the state of an accepted run.
-pub fn answer(state: &GaussianState, list: &List, query: &Query) -> Answer {
-    let result = match query {
-        Query::Z(q) => state.expectation_z(*q).map(Answer::Value),
-        Query::Zz(i, j) => state.z_correlation(*i, *j).map(Answer::Value),
-        Query::Product(qs) => state.expectation_z_product(qs).map(Answer::Value),
-        Query::Marginal(qs, bs) => state.marginal_probability(qs, bs).map(Answer::Value),
-        Query::Probability(x) => state.probability(*x).map(Answer::Value),
-        Query::Sample(shots, draws) => {
-            state.sample(*shots, &mut Draws(draws.iter())).map(Answer::Shots)
+/// A state of the original, in either of its module trees.
+pub trait Asked {
+    fn ask(&self, query: &Query) -> Result<Answer, SimError>;
+}
+
+macro_rules! asked {
+    ($state:ty) => {
+        impl Asked for $state {
+            fn ask(&self, query: &Query) -> Result<Answer, SimError> {
+                match query {
+                    Query::Z(q) => self.expectation_z(*q).map(Answer::Value),
+                    Query::Zz(i, j) => self.z_correlation(*i, *j).map(Answer::Value),
+                    Query::Product(qs) => self.expectation_z_product(qs).map(Answer::Value),
+                    Query::Marginal(qs, bs) => self.marginal_probability(qs, bs).map(Answer::Value),
+                    Query::Probability(x) => self.probability(*x).map(Answer::Value),
+                    Query::Sample(shots, draws) => {
+                        self.sample(*shots, &mut Draws(draws.iter())).map(Answer::Shots)
+                    }
+                }
+            }
         }
     };
-    result.unwrap_or_else(|e| refusal(&e, list.n, query))
+}
+
+asked!(GaussianState);
+asked!(AccessState);
+
+/// Puts one query to the state of an accepted run.
+pub fn answer(state: &impl Asked, list: &List, query: &Query) -> Answer {
+    answer_on(state, list.n, query)
+}
+
+/// Puts one query to a state of n qubits.
+pub fn answer_on(state: &impl Asked, n: usize, query: &Query) -> Answer {
+    state.ask(query).unwrap_or_else(|e| refusal(&e, n, query))
 }
 
 /// The number of an error; the place of a qubit is its index in the list.

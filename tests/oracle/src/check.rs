@@ -1,4 +1,4 @@
-//! The original's answers beside the state vector's.
+//! Answers, the original's or the port's, beside the state vector's.
 
 use crate::answer::{answer, Answer};
 use crate::list::List;
@@ -6,7 +6,6 @@ use crate::query::Query;
 use crate::rng::Rng;
 use crate::run::run;
 use crate::vector::{Vector, WIDEST};
-use original::engines::gaussian::state::GaussianState;
 use std::fmt;
 
 /// Largest difference that counts as none.
@@ -38,33 +37,57 @@ pub struct Counts {
     pub wrong: usize,
 }
 
+/// Puts a query to the state that is checked.
+type Ask<'a> = &'a dyn Fn(&Query) -> Answer;
+
+/// An accepted run.
+pub struct Accepted<'a> {
+    /// No interaction was dropped.
+    pub exact: bool,
+    /// The mode of each qubit.
+    pub modes: &'a [usize],
+    pub ask: Ask<'a>,
+}
+
 impl Counts {
-    /// Compares one list, if the original accepts it.
+    /// Compares the original's answers to one list, if it accepts it.
     pub fn check(&mut self, list: &List) {
-        self.lists += 1;
         let run = run(list);
         match run.state {
-            Err(number) => self.refused[number as usize - 11] += 1,
-            Ok(_) if !run.report.exact => self.dropped += 1,
-            Ok(_) if list.n > WIDEST => self.wide += 1,
+            Err(number) => self.add(list, Err(number)),
             Ok(state) => {
-                self.checked += 1;
-                self.check_state(list, &state);
+                let modes: Vec<usize> = (0..list.n).map(|q| state.mode_of_qubit(q)).collect();
+                let ask: Ask = &|query| answer(&state, list, query);
+                self.add(list, Ok(Accepted { exact: run.report.exact, modes: &modes, ask }));
             }
         }
     }
 
-    fn check_state(&mut self, list: &List, state: &GaussianState) {
+    /// Counts a list that was refused, or compares the answers to it.
+    pub fn add(&mut self, list: &List, run: Result<Accepted, u8>) {
+        self.lists += 1;
+        match run {
+            Err(number) => self.refused[number as usize - 11] += 1,
+            Ok(run) if !run.exact => self.dropped += 1,
+            Ok(_) if list.n > WIDEST => self.wide += 1,
+            Ok(run) => self.check_answers(list, run.modes, run.ask),
+        }
+    }
+
+    fn check_answers(&mut self, list: &List, modes: &[usize], ask: Ask) {
+        self.checked += 1;
         let vector = Vector::run(list.n, &list.gates);
         let own = list.queries.iter().filter(|q| !matches!(q, Query::Sample(..)));
         for query in own.chain(&queries(list.n, &mut Rng::new(self.lists as u64))) {
-            self.check_query(list, state, &vector, query);
+            self.check_query(list, &vector, query, ask);
         }
-        self.check_shots(list, state, &vector, &mut Rng::new(!self.lists as u64));
+        let rng = &mut Rng::new(!self.lists as u64);
+        let draws: Vec<f64> = (0..SHOTS * list.n).map(|_| rng.unit()).collect();
+        self.check_shots(modes, &vector, &draws, ask);
     }
 
-    fn check_query(&mut self, list: &List, state: &GaussianState, vector: &Vector, query: &Query) {
-        let Answer::Value(got) = answer(state, list, query) else {
+    fn check_query(&mut self, list: &List, vector: &Vector, query: &Query, ask: Ask) {
+        let Answer::Value(got) = ask(query) else {
             return;
         };
         let want = match query {
@@ -85,20 +108,18 @@ impl Counts {
         self.worst = self.worst.max(apart);
         if apart.is_nan() || apart > CLOSE {
             self.wrong += 1;
-            eprintln!("list {}: {query} gives {got}, the state vector {want}", self.lists - 1);
+            eprintln!("{query} gives {got}, the state vector {want}\n{list}");
         }
     }
 
     /// Follows each shot mode by mode: a draw gives 1 exactly if it is not below the probability of 0.
-    fn check_shots(&mut self, list: &List, state: &GaussianState, vector: &Vector, rng: &mut Rng) {
-        let draws: Vec<f64> = (0..SHOTS * list.n).map(|_| rng.unit()).collect();
-        let query = Query::Sample(SHOTS, draws.clone());
-        let Answer::Shots(shots) = answer(state, list, &query) else {
+    fn check_shots(&mut self, modes: &[usize], vector: &Vector, draws: &[f64], ask: Ask) {
+        let Answer::Shots(shots) = ask(&Query::Sample(SHOTS, draws.to_vec())) else {
             panic!("a sample gives shots");
         };
-        let mut order: Vec<usize> = (0..list.n).collect();
-        order.sort_by_key(|&q| state.mode_of_qubit(q));
-        for (shot, draws) in shots.iter().zip(draws.chunks(list.n.max(1))) {
+        let mut order: Vec<usize> = (0..modes.len()).collect();
+        order.sort_by_key(|&q| modes[q]);
+        for (shot, draws) in shots.iter().zip(draws.chunks(modes.len().max(1))) {
             let bits: Vec<bool> = order.iter().map(|&q| shot >> q & 1 == 1).collect();
             for (k, &draw) in draws.iter().enumerate() {
                 let before = vector.marginal(&order[..k], &bits[..k]);

@@ -8,7 +8,7 @@ use crate::families;
 use crate::list::{List, RELABEL};
 use crate::records::Records;
 use crate::rng::Rng;
-use crate::tape::{entries, tape};
+use crate::tape::{entries, header, record, tape};
 use crate::traced::traced;
 use original::access::detect::access::{fuse, Item, Kind};
 use original::access::detect::DetectOptions as Options;
@@ -177,17 +177,8 @@ fn swaps() -> Vec<(List, Vec<u8>)> {
 
 /// The tape of a list, with the matrix of each Swap in place of its code.
 fn given_swaps(list: &List) -> Vec<u8> {
-    let mut out = tape(&of(list.n, list.flags, vec![])).expect("a header");
-    for &g in &list.gates {
-        let alone = tape(&of(list.n, list.flags, vec![g])).expect("a tape");
-        out.extend(&alone[20..]);
-        if let Gate::Swap(..) = g {
-            let start = out.len() - 3;
-            out[start] = 0x1f;
-            let m = g.matrix_2q().expect("a two-qubit gate");
-            out.extend(entries(&m).iter().flat_map(|x| x.to_le_bytes()));
-        }
-    }
+    let mut out = header(list).expect("a header");
+    list.gates.iter().for_each(|g| out.extend(record(g, matches!(g, Gate::Swap(..)))));
     out
 }
 

@@ -44,10 +44,20 @@ pub fn parse(words: &[&str]) -> Result<Gate, String> {
     Ok(make(name, &q, &t))
 }
 
-/// The line of a gate. Its name is that of the original's own debug text.
-pub fn text(g: &Gate) -> String {
+/// The same gate on other qubits.
+pub fn on(g: &Gate, qubits: &[usize]) -> Gate {
+    make(&name(g), qubits, &angles(g))
+}
+
+/// The name of a gate is that of the original's own debug text.
+fn name(g: &Gate) -> String {
     let debug = format!("{g:?}");
-    let name = debug.split('(').next().expect("a name");
+    debug.split('(').next().expect("a name").to_string()
+}
+
+/// The line of a gate.
+pub fn text(g: &Gate) -> String {
+    let name = name(g);
     let qubits: String = g.qubits().iter().map(|q| format!(" {q}")).collect();
     format!("{name}{qubits}{}", bits::texts(&angles(g)))
 }

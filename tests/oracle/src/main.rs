@@ -4,7 +4,8 @@ use oracle::families::FAMILIES;
 use oracle::list::{parse_many, List, SEPARATOR};
 use oracle::rng::Rng;
 use oracle::{
-    check, classify, compiled, families, fused, leaves, run, runs, selftest, state_lists, tape,
+    check, classify, compiled, families, fused, leaves, run, runs, selftest, state_lists,
+    stored_tapes, tape,
 };
 use std::io::{self, BufWriter, Read, Write};
 use std::process::ExitCode;
@@ -16,6 +17,7 @@ oracle random SEED COUNT FAMILY  random gate lists to standard output
 oracle families                  the names of the families
 oracle vector FILE               the answers beside those of a state vector
 oracle selftest SEED COUNT       the two module trees beside each other, COUNT lists a family
+oracle reader FILE ..            the plain reader of tapes beside the stored answers of the one in Python
 oracle leaves [products]         the stored list of leaf results, or its second part, in binary
 oracle fuse LIST                 the stored list LIST of tapes and their items, in binary: cuts, mixed or angled
 oracle compile LIST              the stored list LIST of tapes and the answers of compile, in binary: edges, graphs,
@@ -50,6 +52,7 @@ fn command(words: &[&str]) -> Result<bool, String> {
         ["families"] => Ok(FAMILIES.iter().all(|row| writeln!(io::stdout(), "{}", row.0).is_ok())),
         ["vector", file] => vector(file),
         ["selftest", seed, count] => selftest(number(seed)?, number(count)?),
+        ["reader", files @ ..] => reader(files),
         ["leaves"] => write_out(&leaves::leaves()).map(|()| true),
         ["leaves", "products"] => write_out(&leaves::more_products()).map(|()| true),
         ["fuse", list] => write_out(&fused::list(list)?).map(|()| true),
@@ -107,6 +110,19 @@ fn selftest(seed: u64, count: usize) -> Result<bool, String> {
     let tape = selftest::tape_is_right();
     println!("known tape: {}", if tape { "right" } else { "wrong" });
     Ok(out.trees_differ + out.texts_differ == 0 && tape)
+}
+
+fn reader(files: &[&str]) -> Result<bool, String> {
+    let mut counts = stored_tapes::Counts::default();
+    for file in files {
+        let bytes = std::fs::read(file).map_err(|e| format!("{file}: {e}"))?;
+        counts.check(&bytes).map_err(|e| format!("{file}: {e}"))?;
+    }
+    println!(
+        "stored tapes: {} answers, {} lists of gates, {} differ",
+        counts.answers, counts.walks, counts.wrong
+    );
+    Ok(counts.wrong == 0)
 }
 
 fn read_lists(file: &str) -> Result<Vec<List>, String> {

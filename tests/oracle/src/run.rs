@@ -18,14 +18,14 @@ pub struct Run {
 
 /// Runs the unmodified original.
 pub fn run(list: &List) -> Run {
-    let circuit = list.circuit();
-    let program = compile(&circuit, &list.options().detect);
-    let state = GaussianState::from_circuit(&circuit, &list.options());
-    Run {
-        report: program.report,
-        ops: program.ops,
-        state: state.map(|(state, _)| state).map_err(|e| refusal(&e)),
-    }
+    let program = compile(&list.circuit(), &list.options().detect);
+    Run { report: program.report, ops: program.ops, state: state(list) }
+}
+
+/// The state of the original's `from_circuit`, or the number of its refusal.
+pub fn state(list: &List) -> Result<GaussianState, u8> {
+    let ran = GaussianState::from_circuit(&list.circuit(), &list.options());
+    ran.map(|(state, _)| state).map_err(|e| refusal(&e))
 }
 
 /// The number of the question that an error stands for.

@@ -6,11 +6,12 @@ use original::gate::Gate;
 
 const HEADER: [u8; 2] = [0x51, 0x48];
 const GATE: [u8; 2] = [0x51, 0x47];
+const LABEL: [u8; 2] = [0x51, 0x4c];
 
 /// Code of a given 2 by 2 matrix.
-const GIVEN2: u8 = 0x0f;
+pub const GIVEN2: u8 = 0x0f;
 /// Code of a given 4 by 4 matrix.
-const GIVEN4: u8 = 0x1f;
+pub const GIVEN4: u8 = 0x1f;
 
 /// The codes of the named one-qubit gates, each with an example.
 pub const NAMED1: [(u8, Gate); 9] = [
@@ -35,22 +36,38 @@ pub const NAMED2: [(u8, Gate); 5] = [
 ];
 
 /// Code of the three-qubit gate.
-const CCX: u8 = 0x20;
+pub const CCX: u8 = 0x20;
 
 /// The bytes of a list's tape.
 pub fn tape(list: &List) -> Result<Vec<u8>, String> {
+    let mut out = header(list)?;
+    list.gates.iter().for_each(|g| out.extend(record(g, false)));
+    Ok(out)
+}
+
+/// The bytes of the header.
+pub fn header(list: &List) -> Result<Vec<u8>, String> {
     let n = u8::try_from(list.n).map_err(|_| format!("a tape has one byte for n = {}", list.n))?;
     let mut out = HEADER.to_vec();
     out.extend([n, list.flags]);
     out.extend(list.tol.to_le_bytes());
     out.extend(list.limit.to_le_bytes());
-    for g in &list.gates {
-        out.extend(GATE);
-        out.push(code(g));
-        out.extend(g.qubits().iter().map(|&q| q as u8));
-        out.extend(given(g).iter().flat_map(|x| x.to_le_bytes()));
-    }
     Ok(out)
+}
+
+/// The record of a gate; with `given` its matrix stands there even if it has a code of its own.
+pub fn record(g: &Gate, given: bool) -> Vec<u8> {
+    let code = if given { given_code(g) } else { code(g) };
+    let mut out = GATE.to_vec();
+    out.push(code);
+    out.extend(g.qubits().iter().map(|&q| q as u8));
+    out.extend(given_entries(g, code).iter().flat_map(|x| x.to_le_bytes()));
+    out
+}
+
+/// The record of a label of at most 40 bytes.
+pub fn label(text: &[u8]) -> Vec<u8> {
+    [&LABEL, &[text.len() as u8][..], text].concat()
 }
 
 /// How many gates a whole tape has; labels are not counted.
@@ -73,17 +90,21 @@ pub fn gates_on(bytes: &[u8]) -> usize {
 fn code(g: &Gate) -> u8 {
     let same_kind = |x: &Gate| std::mem::discriminant(x) == std::mem::discriminant(g);
     let named = NAMED1.iter().chain(&NAMED2).find(|row| same_kind(&row.1));
-    match (named, g.arity()) {
-        (Some(row), _) => row.0,
-        (None, 1) => GIVEN2,
-        (None, 2) => GIVEN4,
-        (None, _) => CCX,
+    named.map_or_else(|| given_code(g), |row| row.0)
+}
+
+/// The code under which a gate's matrix is given; three-qubit gates have none.
+fn given_code(g: &Gate) -> u8 {
+    match g.arity() {
+        1 => GIVEN2,
+        2 => GIVEN4,
+        _ => CCX,
     }
 }
 
 /// The entries that follow a gate's qubits: none unless its matrix is given.
-fn given(g: &Gate) -> Vec<f64> {
-    match code(g) {
+fn given_entries(g: &Gate, code: u8) -> Vec<f64> {
+    match code {
         GIVEN2 => entries(&g.matrix_1q().expect("a one-qubit gate")),
         GIVEN4 => entries(&g.matrix_2q().expect("a two-qubit gate")),
         _ => vec![],

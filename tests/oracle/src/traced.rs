@@ -6,7 +6,7 @@ use original::traced::detect::access::trace;
 use original::traced::detect::DetectOptions;
 
 /// The least tolerance for which document 01 compares angled lists.
-const LEAST_TOL: f64 = 1e-12;
+pub const LEAST_TOL: f64 = 1e-12;
 
 pub struct Traced {
     pub tried: usize,

@@ -65,16 +65,19 @@ impl Vector {
 
     /// The expectation of the product of Z over a list; pairs cancel.
     pub fn product(&self, qs: &[usize]) -> f64 {
-        let sign = |x: usize| match qs.iter().filter(|&&q| x >> q & 1 == 1).count() % 2 {
-            0 => 1.0,
-            _ => -1.0,
-        };
+        let odd = qs.iter().fold(0, |odd, q| odd ^ 1 << q);
+        let sign = |x: usize| [1.0, -1.0][(x & odd).count_ones() as usize % 2];
         (0..self.amplitudes.len()).map(|x| sign(x) * self.probability(x)).sum()
     }
 
     /// The probability that the listed qubits read the listed bits.
     pub fn marginal(&self, qs: &[usize], bits: &[bool]) -> f64 {
-        let meets = |x: usize| qs.iter().zip(bits).all(|(&q, &b)| (x >> q & 1 == 1) == b);
+        let of = |bit: bool| {
+            let with = qs.iter().zip(bits).filter(|x| *x.1 == bit);
+            with.fold(0, |mask: usize, x| mask | 1 << x.0)
+        };
+        let (zeros, ones) = (of(false), of(true));
+        let meets = |x: usize| x & zeros == 0 && x & ones == ones;
         (0..self.amplitudes.len()).filter(|&x| meets(x)).map(|x| self.probability(x)).sum()
     }
 

@@ -16,6 +16,18 @@ pub fn make(rng: &mut Rng) -> List {
     let interacts = rng.chance(1, 3);
     let tail = if rng.chance(1, 3) { phase_or_flip } else { phase };
     let blocks = rng.between(1, 3 * n);
+    on(rng, n, flags, blocks, interacts, tail)
+}
+
+/// The list of so many qubits and blocks, with or without interactions, with these one-qubit gates.
+pub fn on(
+    rng: &mut Rng,
+    n: usize,
+    flags: u8,
+    blocks: usize,
+    interacts: bool,
+    tail: fn(&mut Rng, usize) -> Gate,
+) -> List {
     let mut maker = Maker::new(rng, n, flags);
     for _ in 0..blocks {
         some_tails(&mut maker, tail);

@@ -13,6 +13,11 @@ pub fn make(rng: &mut Rng) -> List {
     let n = size(rng, 1);
     let flags = rng.below(8) as u8;
     let blocks = rng.between(0, 3 * n);
+    on(rng, n, flags, blocks)
+}
+
+/// The list of so many qubits and blocks.
+pub fn on(rng: &mut Rng, n: usize, flags: u8, blocks: usize) -> List {
     let mut maker = Maker::new(rng, n, flags);
     for _ in 0..blocks {
         some_tails(&mut maker, phase_or_flip);

@@ -6,10 +6,13 @@ mod finish;
 mod maker;
 mod matchgate;
 mod opaque;
+pub mod phases;
 pub mod pieces;
 mod register;
 mod reorder;
+mod signs;
 mod tails;
+pub mod wide;
 
 use crate::list::List;
 use crate::rng::Rng;
@@ -17,14 +20,15 @@ use crate::rng::Rng;
 /// A family makes a list from a source of random numbers.
 pub type Family = fn(&mut Rng) -> List;
 
-/// The families by name.
-pub const FAMILIES: [(&str, Family); 6] = [
+/// The families by name. `phases` and `wide` are beside them: for the bench alone.
+pub const FAMILIES: [(&str, Family); 7] = [
     ("register", register::make),
     ("matchgate", matchgate::make),
     ("angles", angles::make),
     ("reorder", reorder::make),
     ("opaque", opaque::make),
     ("tails", tails::make),
+    ("signs", signs::make),
 ];
 
 /// The family of a name.

@@ -15,6 +15,11 @@ pub fn make(rng: &mut Rng) -> List {
         flags |= REORDER;
     }
     let blocks = rng.between(1, 3 * n);
+    on(rng, n, flags, blocks)
+}
+
+/// The list of so many qubits and blocks.
+pub fn on(rng: &mut Rng, n: usize, flags: u8, blocks: usize) -> List {
     let joined = edges(rng, n);
     let mut maker = Maker::new(rng, n, flags);
     for _ in 0..blocks {

@@ -1,0 +1,123 @@
+//! A state in the port's form: its slice and mode table. Calls on it get exactly the work that question 20 asks for.
+
+use crate::jozkeral::{self, State};
+use crate::lent::OLD;
+use oracle::answer::Answer;
+use oracle::compiled::answer::{Places, PLACES};
+use oracle::query::Query;
+use original::access::detect::GaussOp;
+use original::access::state::{access, GaussianState};
+
+/// Places of work and words of output after those that are lent.
+const GUARD: usize = 2;
+const OLD_WORD: u64 = 7;
+
+pub struct Slice {
+    pub n: usize,
+    pub places: Vec<f64>,
+    pub modes: Vec<u16>,
+}
+
+impl Slice {
+    pub fn of(n: usize, s: &GaussianState) -> Slice {
+        let places = [access::m(s), access::d(s)].concat();
+        let modes = (0..n).map(|q| s.mode_of_qubit(q) as u16).collect();
+        Slice { n, places, modes }
+    }
+
+    /// The original's state of the same numbers.
+    pub fn original(&self) -> GaussianState {
+        let (m, d) = self.places.split_at(4 * self.n * self.n);
+        access::state(self.n, m.to_vec(), d.to_vec(), self.mode_of_qubit())
+    }
+
+    /// The mode of each qubit.
+    pub fn mode_of_qubit(&self) -> Vec<usize> {
+        self.modes[..self.n].iter().map(|&k| k.into()).collect()
+    }
+
+    /// Applies an operation; the number of a refusal, or 0.
+    pub fn apply(&mut self, op: &[f64]) -> u64 {
+        let answer = jozkeral::apply(self.n, &mut self.places, &self.modes, op);
+        answer.map_or_else(|r| r.number, |()| 0)
+    }
+
+    /// The answer to a query, and whether work and output are afterwards as they must be.
+    pub fn ask(&self, query: &Query) -> (Answer, bool) {
+        let room = room(self.n, query);
+        let mut buffer = vec![OLD; room.unwrap_or(1) + GUARD];
+        let (work, rest) = buffer.split_at_mut(room.unwrap_or(1));
+        let state = State { n: self.n, slice: &self.places, modes: &self.modes };
+        let mut well = true;
+        let answer = match query {
+            Query::Z(q) => state.expectation_z(*q).map(Answer::Value),
+            Query::Zz(i, j) => state.z_correlation(*i, *j, work).map(Answer::Value),
+            Query::Product(qs) => state.expectation_z_product(qs, work).map(Answer::Value),
+            Query::Marginal(qs, bits) => {
+                let bits: Vec<u8> = bits.iter().map(|&b| b.into()).collect();
+                state.marginal_probability(qs, &bits, work).map(Answer::Value)
+            }
+            Query::Probability(x) => {
+                state.probability(*x as u64, (x >> 64) as u64, work).map(Answer::Value)
+            }
+            Query::Sample(shots, draws) => {
+                let mut out = vec![OLD_WORD; 2 * shots + GUARD];
+                let (words, rest) = out.split_at_mut(2 * shots);
+                let answer = state.sample(*shots, draws, work, words);
+                well = rest.iter().all(|&x| x == OLD_WORD);
+                answer.map(|()| Answer::Shots(words.chunks(2).map(shot).collect()))
+            }
+        };
+        let zero = |x: &f64| x.to_bits() == 0;
+        well &= if room.is_some() { work.iter().all(zero) } else { *work == [OLD] };
+        well &= rest.iter().all(|&x| x == OLD);
+        (answer.unwrap_or_else(|r| Answer::Refused(r.number as u8, r.place as usize)), well)
+    }
+}
+
+/// The places of an operation.
+pub fn places(op: &GaussOp) -> Places {
+    let mut out = [0.0; PLACES];
+    let (kind, mode, q) = match op {
+        GaussOp::One { mode, q } => (1.0, *mode, q.as_flattened()),
+        GaussOp::Two { mode, q } => (2.0, *mode, q.as_flattened()),
+        GaussOp::Interaction(_) => (3.0, 0, &[][..]),
+    };
+    (out[0], out[1]) = (kind, mode as f64);
+    out[2..2 + q.len()].copy_from_slice(q);
+    out
+}
+
+/// A shot from its two words, low first.
+fn shot(words: &[u64]) -> u128 {
+    u128::from(words[0]) | u128::from(words[1]) << 64
+}
+
+/// The places of work that question 20 asks for; none if the answer is given before it.
+fn room(n: usize, query: &Query) -> Option<usize> {
+    let modes = match query {
+        Query::Z(_) => None,
+        Query::Zz(i, j) => odd(n, &[*i, *j]),
+        Query::Product(qs) => odd(n, qs),
+        Query::Marginal(qs, bits) => agreeing(n, qs, bits),
+        Query::Probability(_) | Query::Sample(..) => Some(n),
+    };
+    modes.map(|k| 4 * k * k)
+}
+
+/// How many qubits are listed an odd number of times.
+fn odd(n: usize, qs: &[usize]) -> Option<usize> {
+    let count = |q: &usize| qs.iter().filter(|&x| x == q).count();
+    qs.iter().all(|&q| q < n).then(|| (0..n).filter(|q| count(q) % 2 == 1).count())
+}
+
+/// How many qubits are listed, if each is there with one bit only.
+fn agreeing(n: usize, qs: &[usize], bits: &[bool]) -> Option<usize> {
+    let mut seen: Vec<Option<bool>> = vec![None; n];
+    for (&q, &b) in qs.iter().zip(bits) {
+        if *seen.get_mut(q)?.get_or_insert(b) != b {
+            return None;
+        }
+    }
+    (qs.len() == bits.len()).then(|| seen.iter().flatten().count())
+}
