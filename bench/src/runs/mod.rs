@@ -8,7 +8,6 @@ mod evolution;
 mod known;
 mod nearly;
 mod ported;
-mod register;
 mod short;
 mod sides;
 mod signs;

@@ -4,7 +4,6 @@
 use super::evolution::evolved;
 use super::nearly::{answer_near, covariance, Nearly};
 use super::ported::{Ported, Ran};
-use super::register::Register;
 use crate::asks::equal;
 use crate::lent::{Lent, Told};
 use crate::slice::Slice;
@@ -13,6 +12,7 @@ use oracle::bits::same;
 use oracle::compiled::answer::{answer as compiled, Compiled, PLACES};
 use oracle::list::{List, DROP};
 use oracle::query::Query;
+use oracle::register::Register;
 use oracle::run::state;
 use oracle::state_text::parts;
 use oracle::tape::gates_on;
@@ -119,7 +119,7 @@ fn both(
     expect(short, "the refusal of a slice that is too short")?;
     let ran = ported.ran(list.n);
     if seen.how == How::Angled {
-        let by_rule = evolved(list.n, &ran.ops, ran.slice.mode_of_qubit(), &|_| false);
+        let by_rule = evolved(list.n, &ran.ops, ran.slice.mode_of_qubit());
         same_state(&ran.slice, access::m(&by_rule), access::d(&by_rule))?;
         answers(&ran.slice, list, |query| answer(&by_rule, list, query), register, seen)?;
         expect(covariance(&ran.slice, &theirs), "the unmodified original's covariance")?;
@@ -155,7 +155,7 @@ fn alone(list: &List, tape: &[u8], register: Option<Register>, seen: &mut Seen) 
     let told = ported.lent.compiled(&ported.told, list.n);
     expect(told.words() == ported.compiled.words(), "report or operations of the run")?;
     let ran = ported.ran(list.n);
-    let state = evolved(list.n, &ran.ops, ran.slice.mode_of_qubit(), &|_| false);
+    let state = evolved(list.n, &ran.ops, ran.slice.mode_of_qubit());
     same_state(&ran.slice, access::m(&state), access::d(&state))?;
     answers(&ran.slice, list, |query| answer_on(&state, list.n, query), register, seen)?;
     seen.ran = Some(ran);

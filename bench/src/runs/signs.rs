@@ -1,18 +1,21 @@
-//! A deliberately broken copy of the evolution: turns of the signs are lost. It must give other answers than the port.
+//! Deliberately broken copies of the evolution, in which turns of the signs are lost: they must give other answers than the port.
 
-use super::evolution::evolved;
 use super::ported::Ran;
-use oracle::compiled::answer::PLACES;
-use original::access::state::access::det;
+use oracle::answer::Answer;
+use oracle::query::Query;
+use oracle::runs::faults::{turns, z, Fault};
 
 /// A difference of Z that counts.
 const CLEAR: f64 = 0.01;
+/// Largest difference between the port and the copy without a fault.
+const CLOSE: f64 = 1e-9;
 
-/// What the broken copies showed.
+/// What the copies showed.
 #[derive(Default)]
 pub struct Signs {
     lists: usize,
-    /// Lists on which a copy that never turns gives another Z than the port.
+    /// Lists on which the copy without a fault gives another Z than the port, and those on which one that never turns does.
+    whole: usize,
     never: usize,
     /// Single turns, and those of them that change a Z if they alone are lost.
     turns: usize,
@@ -20,40 +23,33 @@ pub struct Signs {
 }
 
 impl Signs {
+    /// A list without interactions.
     pub fn add(&mut self, ran: &Ran) {
-        let n = ran.slice.n;
-        let z = |lost: &dyn Fn(usize) -> bool| -> Vec<f64> {
-            let s = evolved(n, &ran.ops, ran.slice.mode_of_qubit(), lost);
-            (0..n).map(|q| s.expectation_z(q).expect("a good qubit")).collect()
+        let (n, modes) = (ran.slice.n, ran.slice.mode_of_qubit());
+        let port = |q: usize| match ran.slice.ask(&Query::Z(q)).0 {
+            Answer::Value(x) => x,
+            _ => f64::NAN,
         };
-        let right = z(&|_| false);
-        let other = |zs: Vec<f64>| zs.iter().zip(&right).any(|(x, y)| (x - y).abs() > CLEAR);
-        let turns = ran.ops.chunks(PLACES).enumerate().filter(|op| turns(n, op.1));
-        let turns: Vec<usize> = turns.map(|op| op.0).collect();
+        let other = |fault: Fault, least: f64| {
+            let broken = z(n, &ran.ops, fault);
+            (0..n).any(|q| (port(q) - broken[modes[q]]).abs() > least)
+        };
+        let turns = turns(n, &ran.ops);
         self.lists += 1;
-        self.never += usize::from(other(z(&|_| true)));
+        self.whole += usize::from(other(Fault::None, CLOSE));
+        self.never += usize::from(other(Fault::NoTurn, CLEAR));
         self.turns += turns.len();
-        self.single += turns.iter().filter(|&&k| other(z(&|lost| lost == k))).count();
+        self.single += turns.iter().filter(|&&k| other(Fault::Lost(k), CLEAR)).count();
     }
 
     /// Prints the counts; whether three of four lists and turns show at least. A turn before which or after which nothing joins the
     /// modes that it parts does not.
     pub fn end(&self) -> bool {
         println!(
-            "runs signs: an evolution that never turns the signs gives another Z on {} of {} lists; of {} turns {} change a Z if \
-             they alone are lost",
-            self.never, self.lists, self.turns, self.single
+            "runs signs: a copy of the evolution gives another Z than the port on {} of {} lists, one that never turns the signs on {}; of {} \
+             turns {} change a Z if they alone are lost",
+            self.whole, self.lists, self.never, self.turns, self.single
         );
-        4 * self.never >= 3 * self.lists && 4 * self.single >= 3 * self.turns
-    }
-}
-
-/// Whether an operation turns later modes.
-fn turns(n: usize, op: &[f64]) -> bool {
-    let mode = op[1] as usize;
-    match op[0] {
-        1.0 => mode + 1 < n && det::<2>(&op[2..6]) < 0.0,
-        2.0 => mode + 2 < n && det::<4>(&op[2..18]) < 0.0,
-        _ => false,
+        self.whole == 0 && 4 * self.never >= 3 * self.lists && 4 * self.single >= 3 * self.turns
     }
 }

@@ -14,6 +14,7 @@ pub mod list;
 pub mod query;
 pub mod reader;
 pub mod records;
+pub mod register;
 pub mod rng;
 pub mod run;
 pub mod runs;

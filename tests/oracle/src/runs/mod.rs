@@ -4,7 +4,7 @@
 
 mod asked;
 mod edges;
-mod faults;
+pub mod faults;
 mod mixed;
 mod pack;
 mod ran;

@@ -8,11 +8,13 @@
 use super::asked::{self, Asked};
 use super::ran::Ran;
 use super::{add_run, TOL};
+use crate::answer::Answer;
 use crate::bits::word;
 use crate::families;
 use crate::list::{List, DROP, RELABEL, REORDER};
 use crate::query::Query;
 use crate::records::Records;
+use crate::register::Register;
 use crate::rng::Rng;
 use crate::tape::tape;
 use original::gate::Gate;
@@ -57,10 +59,10 @@ impl Met {
     fn add(&mut self, out: &mut Records, list: &List, refused: bool) {
         let ran = Ran::of(&List { tol: list.tol.max(TOL), ..list.clone() });
         if ran.accepted() {
-            let register = Register::run(list.n, &list.gates);
+            let register = Register::of(list.n, &list.gates).expect("a register tape");
             let answers = asked::all(list, &ran);
             let all = list.queries.iter().zip(&answers);
-            all.for_each(|(q, a)| assert!(register.gives(q, a), "{q} of\n{list}"));
+            all.for_each(|(q, a)| assert!(gives(&register, q, a), "{q} of\n{list}"));
         } else {
             assert!(!accepts(list), "refused:\n{list}");
             if !refused {
@@ -87,56 +89,17 @@ fn accepts(list: &List) -> bool {
     list.limit >= 32 * (list.n * list.n) as u64 && list.gates.iter().all(plain)
 }
 
-/// "It holds n bits, all zero at first."
-struct Register(Vec<bool>);
-
-impl Register {
-    fn run(n: usize, gates: &[Gate]) -> Register {
-        let mut bits = vec![false; n];
-        for g in gates {
-            match *g {
-                Gate::X(q) | Gate::Y(q) => bits[q] = !bits[q],
-                Gate::Swap(a, b) | Gate::ISwap(a, b) | Gate::ISwapdg(a, b) => bits.swap(a, b),
-                Gate::I(_) | Gate::Z(_) | Gate::S(_) | Gate::Sdg(_) => {}
-                _ => panic!("{g:?} is on no register tape"),
-            }
-        }
-        Register(bits)
+/// Whether an answer that is given is the register's.
+fn gives(register: &Register, query: &Query, asked: &Asked) -> bool {
+    if asked.answer[0] != 0 {
+        return true;
     }
-
-    /// Whether an answer that is given is the register's.
-    fn gives(&self, query: &Query, asked: &Asked) -> bool {
-        if asked.answer[0] != 0 {
-            return true;
+    match register.answer(query) {
+        Answer::Value(x) => asked.answer[2] == word(x),
+        Answer::Shots(shots) => {
+            let words = shots.iter().flat_map(|&x| [x as u64, (x >> 64) as u64]);
+            words.zip(&asked.output).all(|(a, b)| a == *b)
         }
-        let value = match query {
-            Query::Z(q) => self.product(&[*q]),
-            Query::Zz(i, j) => self.product(&[*i, *j]),
-            Query::Product(qs) => self.product(qs),
-            Query::Marginal(qs, bits) => self.marginal(qs, bits),
-            Query::Probability(x) => {
-                let all: Vec<usize> = (0..self.0.len()).collect();
-                self.marginal(&all, &all.iter().map(|q| x >> q & 1 == 1).collect::<Vec<_>>())
-            }
-            Query::Sample(shots, _) => {
-                let bits = (0..self.0.len()).fold(0, |x, q| x | u64::from(self.0[q]) << q);
-                return asked.output[..2 * shots].chunks(2).all(|shot| shot == [bits, 0]);
-            }
-        };
-        asked.answer[2] == word(value)
-    }
-
-    /// "-1.0 if an odd number of ones is listed"
-    fn product(&self, qs: &[usize]) -> f64 {
-        match qs.iter().filter(|&&q| self.0[q]).count() % 2 {
-            0 => 1.0,
-            _ => -1.0,
-        }
-    }
-
-    /// "0.0 if a listed qubit below n has another bit than the one asked"
-    fn marginal(&self, qs: &[usize], bits: &[bool]) -> f64 {
-        let other = |(&q, &b): (&usize, &bool)| self.0.get(q).is_some_and(|&own| own != b);
-        f64::from(!qs.iter().zip(bits).any(other))
+        Answer::Refused(..) => false,
     }
 }

@@ -1,7 +1,7 @@
 //! Document 01's bit register, which stands beside accepted runs of register tapes.
 
-use oracle::answer::Answer;
-use oracle::query::Query;
+use crate::answer::Answer;
+use crate::query::Query;
 use original::gate::Gate;
 
 /// "It holds n bits, all zero at first."
