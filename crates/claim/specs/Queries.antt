@@ -1,14 +1,21 @@
 -- The queries of demand 3, "the calls just listed", each with what it asks and is lent; what the engine answers to a list of them, and what the bit
 -- register answers. Definitions only.
 use mathlib.Core.Path.{_≡_}
-use mathlib.Core.Bool.{Bool}
+use mathlib.Core.Bool.{Bool, true, not, cond, _&&_}
 use mathlib.Core.List.{List, [], _∷_}
-use Prim.Native.Nat.{ℕ}
+use Prim.Native.Nat.{ℕ, _*_}
+use lib.Dec.{leb, ltb}
+use lib.ListN.{getD, length}
 use lib.Ieee.{Float}
 use Rattle.laws.specs.Zeros.{+0}
+use Rattle.state.specs.Bounds.{dimOf}
 use Rattle.state.specs.Answers.{Told, accepted}
 use Rattle.state.specs.Calls.{expectationZOf}
-use Rattle.queries.specs.Calls.{expectationZProductOf, zCorrelationOf, marginalProbabilityOf, probabilityOf, sampleOf, sampleOut}
+use Rattle.queries.specs.Lists.{badPlace, oddModes, bitsOk, stopPlace, asked, notedModes}
+use Rattle.queries.specs.Products.{dimLeft}
+use Rattle.queries.specs.Basis.{basisMark}
+use Rattle.queries.specs.Samples.{shotsOk, badDrawOf}
+use Rattle.queries.specs.Calls.{workOk, expectationZProductOf, zCorrelationOf, marginalProbabilityOf, probabilityOf, sampleOf, sampleOut}
 use Rattle.basis.specs.Answers.{registerProduct, registerMarginal, registerProbability, registerShots}
 
 pub data Query : Type 0 where
@@ -59,15 +66,43 @@ registerAnswer n bits (marginal qs xs w) = number (accepted (registerMarginal n 
 registerAnswer n bits (probability low high w) = number (accepted (registerProbability n bits low high))
 registerAnswer n bits (sample shots draws w out) = record { told = accepted +0; out = registerShots n bits shots out }
 
+-- ---- a query's own questions: 18 to 22, of what it asks and is lent. (16 is the state's.)
+
+-- 19 and 20, of a list of qubits
+abbrev pub productPasses : ℕ → List ℕ → List ℕ → List Float → Bool
+productPasses n modes qs w = not (ltb (badPlace n qs) (length qs)) && workOk (dimLeft (oddModes n modes qs)) w
+
+-- 19 where the list stops at a place, else 20: "a marginal stops with 0.0 at the first contradiction, later qubits and 20 unread"
+abbrev pub listPasses : ℕ → List ℕ → List ℕ → List ℕ → List Float → Bool
+listPasses n modes qs xs w =
+    let place = stopPlace n modes qs xs in
+    cond (ltb place (length qs)) (not (leb n (getD qs place 0))) (workOk (dimLeft (notedModes n (asked modes qs xs))) w)
+
+-- 21 and 22
+abbrev pub shotsPass : ℕ → ℕ → List Float → List ℕ → Bool
+shotsPass n shots draws out = shotsOk n shots draws out && not (ltb (badDrawOf (n * shots) draws) (n * shots))
+
+-- each has yes for an answer
+abbrev pub passes : ℕ → List ℕ → Query → Bool
+passes n modes (expectation q) = ltb q n
+passes n modes (correlation i j w) = productPasses n modes (i ∷ j ∷ []) w
+passes n modes (product qs w) = productPasses n modes qs w
+passes n modes (marginal qs xs w) = bitsOk qs xs && listPasses n modes qs xs w
+passes n modes (probability low high w) = workOk (dimLeft (notedModes n (basisMark n modes low high))) w
+passes n modes (sample shots draws w out) = workOk (dimOf n) w && shotsPass n shots draws out
+
 -- ---- beside each other
 
--- an answer that is given, "those that give no number", is the register's
-abbrev pub RightAnswer : ℕ → (ℕ → Bool) → Query → Given → Type 0
-RightAnswer n bits q g = g .told .number ≡ 0 → g ≡ registerAnswer n bits q
+-- what is given to a query, on a state with this mode table, where the register has these bits
+pub record RightAnswer (n : ℕ) (modes : List ℕ) (bits : ℕ → Bool) (q : Query) (g : Given) : Type 0 where
+  -- "refused only where one of its own questions has no for an answer"
+  pub answered : passes n modes q ≡ true → g .told .number ≡ 0
+  -- an answer, which gives no number, is the register's
+  pub right : g .told .number ≡ 0 → g ≡ registerAnswer n bits q
 
--- there is an answer to each query of the list, and each is right
-abbrev pub RightAnswers : ℕ → (ℕ → Bool) → List Query → List Given → Type 0
-RightAnswers n bits [] [] = Unit {0}
-RightAnswers n bits [] (g ∷ gs) = ⊥
-RightAnswers n bits (q ∷ qs) [] = ⊥
-RightAnswers n bits (q ∷ qs) (g ∷ gs) = RightAnswer n bits q g × RightAnswers n bits qs gs
+-- something is given to each query of the list, and it is right
+abbrev pub RightAnswers : ℕ → List ℕ → (ℕ → Bool) → List Query → List Given → Type 0
+RightAnswers n modes bits [] [] = Unit {0}
+RightAnswers n modes bits [] (g ∷ gs) = ⊥
+RightAnswers n modes bits (q ∷ qs) [] = ⊥
+RightAnswers n modes bits (q ∷ qs) (g ∷ gs) = RightAnswer n modes bits q g × RightAnswers n modes bits qs gs

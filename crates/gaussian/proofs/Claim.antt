@@ -42,9 +42,9 @@ module _ (t : List ℕ) (work : List Float) (marks : List ℕ) (ops state : List
       let y = run-says t work marks ops state e in
       let p = y .passed in
       subst (λ (claim : Type 0). claim)
-      (λ z. RightAnswers (sym (y .report) z .report .n) (registerBits (contentOf (sym (p .parsed) z) .gates)) qs
+      (λ z. RightAnswers (sym (y .report) z .report .n) (sym (y .report) z .report .modes) (registerBits (contentOf (sym (p .parsed) z) .gates)) qs
       (answers (sym (y .report) z .report .n) (sym (y .final) z) (sym (y .report) z .report .modes) qs))
-      (tape-answers t (y .header) (y .content) (p .parsed) register (passes-free (y .header) (y .content) _ _ (p .rest)) state (p .rest .state) qs)
+      (tape-answers t (y .header) (y .content) (p .parsed) state (p .rest .state) register (passes-free (y .header) (y .content) _ _ (p .rest)) qs)
 
   accepts : MustAccept t (length work) (length marks) (length ops) (length state) (ran t work marks ops state)
   accepts h c e register plain f =

@@ -1,30 +1,25 @@
 -- Z of a qubit after an accepted run: the state passes question 16, so that `expectation_z` is answered for every qubit below n; after a register tape
 -- the answer is that of the qubit's last bit. Assumes nothing.
-use mathlib.Core.Path.{_≡_, refl, sym, ap, subst, _∙_}
+use mathlib.Core.Path.{_≡_, sym, ap, subst, _∙_}
 use mathlib.Core.Bool.{true}
 use mathlib.Core.List.{List, [], _∷_, List·Memᴰ}
-use Prim.Native.Nat.{ℕ, _≤_, _<_}
-use lib.ListN.{length}
+use Prim.Native.Nat.{ℕ, _<_}
 use lib.Ieee.{Float}
-use borrow.Author.Tests.{le-leb, lt-ltb}
+use borrow.Author.Tests.{lt-ltb}
 use Rattle.tape.specs.Parse.{Content, accepted, parse, contentOf, gatesOf}
 use Rattle.tape.specs.declared.header.Header.{Header}
 use Rattle.tape.specs.declared.gates.Gate.{Gate}
 use Rattle.detect.specs.declared.report.Compiled.{Compiled}
 use Rattle.detect.specs.Report.{reportOf}
-use Rattle.detect.specs.Compile.{reportedOf, programOf}
-use Rattle.state.specs.Bounds.{maxQubits, dimOf, statePlaces}
+use Rattle.detect.specs.Compile.{reportedOf}
 use Rattle.state.specs.Questions.{stateOk}
-use Rattle.state.specs.State.{stored}
 use Rattle.state.specs.Calls.{expectationZOf}
 use Rattle.state.specs.Answers.{Told}
 use Rattle.state.specs.Answers as Answers
-use Rattle.evolve.specs.Evolve.{evolved}
-use Rattle.evolve.proofs.Evolving.{stored-long}
 use Rattle.register.specs.Register.{RegisterTape, RegisterGate, registerBits}
 use Rattle.basis.specs.Answers.{registerProduct}
 use Rattle.claim.specs.Queries.{Given, expectation, answers}
-use Rattle.claim.proofs.Tables.{qubits-few, table-permutes}
+use Rattle.claim.proofs.Answering.{passes-sixteen}
 use Rattle.gaussian.specs.Run.{ran, ranState}
 use Rattle.gaussian.specs.Claim.{Accepted}
 use Rattle.gaussian.proofs.Accepted.{run-says}
@@ -46,18 +41,11 @@ register-tape t h c e all x m = all x (subst (λ (p : _). List·Memᴰ x (conten
 module _ (t : List ℕ) (work : List Float) (marks : List ℕ) (ops state : List Float) (a : Accepted (ran t work marks ops state)) where
   pub state-passes : (let r = ran t work marks ops state .report in
       stateOk (r .n) (ranState t work marks ops state) (r .modes) ≡ true)
-  unfolding stateOk reportedOf reportOf
+  unfolding reportedOf reportOf
   state-passes =
       let y = run-says t work marks ops state a in
-      let h = y .header in
-      let c = y .content in
-      let room = y .passed .rest .state in
-      let w = evolved (h .n) (programOf h (c .gates)) in
-      let s = stored (dimOf (h .n)) w state in
-      let long : statePlaces (dimOf (h .n)) ≤ length s = rw (stored-long (dimOf (h .n)) w state s room refl) room in
       (λ z. stateOk (y .report z .report .n) (y .final z) (y .report z .report .modes))
-      ∙ rw (le-leb (h .n) maxQubits (qubits-few t h c (y .passed .parsed)), le-leb (statePlaces (dimOf (h .n))) (length s) long)
-      (table-permutes t h c (y .passed .parsed))
+      ∙ passes-sixteen t (y .header) (y .content) (y .passed .parsed) state (y .passed .rest .state)
 
   -- the report's n is the header's
   pub run-qubits : (h : Header) (c : Content) → parse t ≡ accepted h c → ran t work marks ops state .report .n ≡ h .n
@@ -77,4 +65,4 @@ module _ (t : List ℕ) (work : List Float) (marks : List ℕ) (ops state : List
 
     pub z-told : zAfter t work marks ops state q ≡ Answers.accepted (registerProduct (registerBits (gatesOf t)) (q ∷ []))
     unfolding answers
-    z-told = ap (λ (g : Given). g .told) (register-claim t work marks ops state .right register a (expectation q ∷ []) .0 z-given)
+    z-told = ap (λ (g : Given). g .told) (register-claim t work marks ops state .right register a (expectation q ∷ []) .0 .right z-given)

@@ -23,12 +23,13 @@ use Rattle.gaussian.specs.Run.{bytesOf}
 abbrev pub Accepted : Compiled → Type 0
 Accepted r = r .answer ≡ Answer.Done
 
--- For every register tape t whose run is accepted, and every list of queries put to its state, each answer that is given is the register's. r is what the
--- run gives, s the state slice as it leaves it; "every query on the list is given these three", the slice, the run's n and its mode table
+-- For every register tape t whose run is accepted, and every list of queries put to its state, each answer is the register's, and a query is refused only
+-- where one of its own questions has no for an answer (`RightAnswers`). r is what the run gives, s the state slice as it leaves it; "every query on the
+-- list is given these three", the slice, the run's n and its mode table
 abbrev pub AnswersRight : List ℕ → Compiled → List Float → Type 0
 AnswersRight t r s =
     RegisterTape t → Accepted r → (qs : List Query)
-    → RightAnswers (r .report .n) (registerBits (gatesOf t)) qs (answers (r .report .n) s (r .report .modes) qs)
+    → RightAnswers (r .report .n) (r .report .modes) (registerBits (gatesOf t)) qs (answers (r .report .n) s (r .report .modes) qs)
 
 -- "slices and limit suffice when 9, 10, 14 and 15 have yes for an answer": of slices of so many places
 pub record Suffice (h : Header) (gs : List Gate) (work marks ops state : ℕ) : Type 0 where
