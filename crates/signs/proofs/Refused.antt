@@ -22,8 +22,14 @@ use Rattle.signs.proofs.Values.{plus≢minus, float-one}
 use Rattle.signs.proofs.Gates.{X, XI, R, map₁, map}
 use Rattle.signs.proofs.Rows.{between, inFront, behind, twice, alone0, lower, Says, say, Answers, fit-between, fit-alone0, fit-lower}
 
--- ---- with the engine's own tests it is the engine, and so it is right
+-- ---- the engine with its own tests
 
+-- its answers to the worked rows, by computation: those of quantum mechanics (`say`). An engine with another test fails here
+own-answers : Answers ownEngine between 1 minus × Answers ownEngine alone0 1 minus × Answers ownEngine lower 0 minus
+unfolding ran R XI X map₁ map dot odd det upFrom eliminated lastLargest betterOf loweredAll less absOf lt le eq isNan sub add mul div neg
+own-answers = (refl, refl, refl)
+
+-- it is the engine, and so it is right for every circuit
 own-effect : (o : Operation) (t : State) → ownEngine o t ≡ effect o t
 unfolding effect
 own-effect (One mode q) t = refl
@@ -32,11 +38,6 @@ own-effect (Interaction mode block second unit) t = refl
 
 pub own-right : AlwaysRight ownEngine
 own-right n xs within = subst (λ (e : Engine). Right n xs (ran e xs vacuum)) (λ i o t. sym (own-effect o t) i) (signs n xs within)
-
--- its answers, by computation
-own-answers : Answers ownEngine between 1 minus × Answers ownEngine alone0 1 minus × Answers ownEngine lower 0 minus
-unfolding ran R XI X map₁ map dot odd det upFrom eliminated lastLargest betterOf loweredAll less absOf lt le eq isNan sub add mul div neg
-own-answers = (refl, refl, refl)
 
 -- ---- the wrong engines
 

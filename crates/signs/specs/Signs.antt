@@ -4,6 +4,7 @@
 -- first, and takes its value in |0..0>. The two agree, zero signs aside. The right sides speak of neither determinants nor later modes nor postponed
 -- signs, so an engine that loses a turn, turns its own rows too, does not settle, or turns the next mode only is not right. Assumes nothing.
 use mathlib.Core.Path.{_≡_}
+use mathlib.Core.Bool.{true}
 use mathlib.Core.List.{List, [], _∷_}
 use Prim.Native.Nat.{ℕ, _*_, _≤_, _<_}
 use lib.ListN.{length}
@@ -11,9 +12,11 @@ use lib.Ieee.{Float}
 use Rattle.laws.specs.Zeros.{nz}
 use Rattle.state.specs.Bounds.{dimOf, statePlaces}
 use Rattle.state.specs.State.{State, stateAt, stored, vacuum, get}
-use Rattle.state.specs.Operation.{applied}
-use Rattle.state.specs.Calls.{zOf}
+use Rattle.state.specs.Operation.{applied, decodeOf}
+use Rattle.state.specs.Questions.{stateOk}
+use Rattle.state.specs.Calls.{zOf, applyState}
 use Rattle.state.specs.declared.operation.Operation.{Operation}
+use Rattle.state.specs.declared.operation.Decoded.the-variants.{Good}
 use Rattle.queries.specs.Products.{productOf}
 use Rattle.signs.specs.Paulis.{float, expectation}
 use Rattle.signs.specs.Majoranas.{gamma, paired, zs, Modes}
@@ -52,3 +55,22 @@ appliedAll n (x ∷ xs) s = appliedAll n xs (applied n (operation x) s)
 abbrev pub RightInSlices : Type 0
 RightInSlices = (n : ℕ) (xs : List Item) (s : List Float) → Within n xs → statePlaces (dimOf n) ≤ length s
     → Right n xs (stateAt (dimOf n) (appliedAll n xs (stored (dimOf n) vacuum s)))
+
+-- ---- the same by calls of `apply`
+
+-- each operation stands in the places of a slice: question 17 reads it there
+abbrev pub StandIn : ℕ → List Item → List (List Float) → Type 0
+StandIn n [] [] = Unit {0}
+StandIn n [] (op ∷ ops) = ⊥
+StandIn n (x ∷ xs) [] = ⊥
+StandIn n (x ∷ xs) (op ∷ ops) = (decodeOf n op ≡ Good (operation x)) × StandIn n xs ops
+
+-- the state slice after a call of `apply` for each
+unfoldable pub called : ℕ → List ℕ → List (List Float) → List Float → List Float
+called n modes [] s = s
+called n modes (op ∷ ops) s = called n modes ops (applyState n s modes op)
+
+-- the caller's slice and mode table pass question 16
+abbrev pub RightByCalls : Type 0
+RightByCalls = (n : ℕ) (xs : List Item) (ops : List (List Float)) (modes : List ℕ) (s : List Float) → Within n xs → StandIn n xs ops
+    → stateOk n s modes ≡ true → Right n xs (stateAt (dimOf n) (called n modes ops (stored (dimOf n) vacuum s)))
