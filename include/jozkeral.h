@@ -141,8 +141,8 @@ uint64_t jozkeral_run(const uint8_t *tape, size_t tape_len, double *work, size_t
 /* ---- calls on a state -----------------------------------------------------------------------------------------------
  *
  * n, state and modes are those of a run, or any others: 16 asks what is needed of them. A query only reads the state.
- * work: what was there does not matter; zeros in the places that 20 asks for once it has passed, untouched before. It is left
- *     zero whatever the answer.
+ * work: what was there does not matter. Once 20 has passed, the places that it asks for are left zero, whatever the answer;
+ *     where the answer is given before 20, work is untouched.
  * place (1): the place of the refusal, or 0. answer (1): the number asked for, 0.0 in a refusal.
  */
 
@@ -150,7 +150,7 @@ uint64_t jozkeral_run(const uint8_t *tape, size_t tape_len, double *work, size_t
 uint64_t jozkeral_apply(size_t n, double *state, size_t state_len, const uint16_t *modes, size_t modes_len, const double *op,
                         size_t op_len);
 
-/* Z of qubit q, from -1 to 1: questions 16 and 19 (at 0). */
+/* Z of qubit q (on the state of a run from -1 to 1, but for rounding): questions 16 and 19 (at 0). */
 uint64_t jozkeral_expectation_z(size_t n, const double *state, size_t state_len, const uint16_t *modes, size_t modes_len, size_t q,
                                 uint64_t *place, size_t place_len, double *answer, size_t answer_len);
 

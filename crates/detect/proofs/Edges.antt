@@ -65,7 +65,7 @@ iswap = Two 0x13 0 2 gateISwap ∷ []
 abbrev cz : List Gate
 cz = Two 0x11 0 1 gateCz ∷ []
 
--- ---- the items: the gates' own matrices, but for Cz with relabelling, which is SWAP times a matchgate
+-- ---- the items: the gates' own matrices, but for Cz with relabelling, which is SWAP times a matchgate ("Cz with relabelling: matchgate")
 
 pub record Fusing (h : Header) (gs : List Gate) (xs : List Item) (content : List ℕ) (swaps : ℕ) (angled : Bool) : Type 0 where
   pub items : itemsOf h gs .items ≡ xs
@@ -74,7 +74,7 @@ pub record Fusing (h : Header) (gs : List Gate) (xs : List Item) (content : List
   pub renamings : itemsOf h gs .swaps ≡ swaps
   pub angle : itemsOf h gs .angled ≡ angled
 
-fusings : Fusing (header 3 2) iswap (Items.two matchItem 0 2 f0 gateISwap ∷ []) (0 ∷ 1 ∷ 2 ∷ []) 0 false
+pub fusings : Fusing (header 3 2) iswap (Items.two matchItem 0 2 f0 gateISwap ∷ []) (0 ∷ 1 ∷ 2 ∷ []) 0 false
     × Fusing (header 3 0) iswap (Items.two matchItem 0 2 f0 gateISwap ∷ []) (0 ∷ 1 ∷ 2 ∷ []) 0 false
     × Fusing (header 2 1) cz (Items.two matchItem 0 1 f0 (swap4Of gateCz) ∷ []) (1 ∷ 0 ∷ []) 1 true
     × Fusing (header 2 0) cz (Items.two interactionItem 0 1 f0 gateCz ∷ []) (0 ∷ 1 ∷ []) 0 true

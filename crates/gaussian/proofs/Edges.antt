@@ -10,7 +10,7 @@ use lib.Ieee.{Float, lt, le, neg, ofBits}
 use borrow.Author.Tests.{eq-eqb}
 use Rattle.laws.specs.Views.{from, upFrom}
 use Rattle.num.specs.Bits.{le16, le32, le64}
-use Rattle.gate.specs.Complex.{f0}
+use Rattle.gate.specs.Complex.{f0, f1}
 use Rattle.gate.specs.Table.{f-1, gateX, gateCz, gateISwap, matrix1qOf, matrix2qOf}
 use Rattle.gate.specs.declared.matrix.Mat2.{Mat2}
 use Rattle.tape.specs.Bounds.{headerLength}
@@ -33,15 +33,16 @@ use Rattle.detect.specs.declared.report.Report.{Report}
 use Rattle.detect.specs.declared.report.Compiled.{Compiled}
 use Rattle.detect.specs.Report.{reportOf}
 use Rattle.detect.specs.Compile.{labelsOf, itemsOf, orderOf, tallyOf, reportedOf}
-use Rattle.detect.proofs.Reports.{blocks-add, blocks-items}
+use Rattle.detect.proofs.Reports.{blocks-add, blocks-items, no-blocks as fraction-one}
 use Rattle.detect.proofs.Edges.{Reporting, edges}
 use Rattle.state.specs.Answers as Answers
+use Rattle.state.specs.Calls.{expectationZOf}
 use Rattle.register.specs.Register.{RegisterTape, RegisterGate, registerFrom, registerBits}
 use Rattle.register.specs.Follows.{PlainGate}
 use Rattle.register.proofs.Tapes.{good-gates}
 use Rattle.basis.specs.Answers.{oddOnes, registerProduct}
 use Rattle.claim.proofs.Plain.{plain-free}
-use Rattle.gaussian.specs.Run.{dropsOf, interacts, bytesOf, ran}
+use Rattle.gaussian.specs.Run.{dropsOf, interacts, bytesOf, ran, ranState}
 use Rattle.gaussian.specs.Claim.{Accepted, Suffice}
 use Rattle.gaussian.proofs.Claim.{register-claim}
 use Rattle.gaussian.proofs.Expectation.{zAfter, register-tape, run-qubits, z-told}
@@ -77,18 +78,32 @@ pub data Edge : List ℕ → ℕ → Type 0 where
   iswap-reordered : Edge (tape 3 2 32 1 iswap02) 0
   iswap-11 : Edge (tape 3 0 32 1 iswap02) 11
 
--- ordering, wires by mode and modes by qubit, as the run reports them
-pub data Arranged : List ℕ → Ordering → List ℕ → List ℕ → Type 0 where
-  -- "mode table 1 0"
-  cz-modes : Arranged (tape 2 1 128 0 cz01) Ordering.Identity (0 ∷ 1 ∷ []) (1 ∷ 0 ∷ [])
-  -- "order 0 2 1, paths"
-  iswap-order : Arranged (tape 3 2 32 1 iswap02) Ordering.Paths (0 ∷ 2 ∷ 1 ∷ []) (0 ∷ 2 ∷ 1 ∷ [])
+-- what a run shows: ordering, wires by mode and modes by qubit; Z of a qubit; Gaussian blocks in proportion to all
+pub data Shown : Type 0 where
+  order : Ordering → List ℕ → List ℕ → Shown
+  parity : ℕ → Float → Shown
+  fraction : Float → Shown
 
--- what a report shows of them
-pub record Shows (r : Report) (o : Ordering) (order modes : List ℕ) : Type 0 where
+pub data Shows : List ℕ → Shown → Type 0 where
+  -- "mode table 1 0"
+  cz-modes : Shows (tape 2 1 128 0 cz01) (order Ordering.Identity (0 ∷ 1 ∷ []) (1 ∷ 0 ∷ []))
+  -- "order 0 2 1, paths"
+  iswap-order : Shows (tape 3 2 32 1 iswap02) (order Ordering.Paths (0 ∷ 2 ∷ 1 ∷ []) (0 ∷ 2 ∷ 1 ∷ []))
+  -- "X on 0: Z is -1"
+  x-parity : Shows (tape 2 0 128 0 x0) (parity 0 f-1)
+  -- "No blocks: fraction 1.0"
+  no-blocks : Shows (tape 2 0 128 0 []) (fraction f1)
+
+pub record Ordered (r : Report) (o : Ordering) (order modes : List ℕ) : Type 0 where
   pub ordering-is : r .ordering ≡ o
   pub order-is : take (r .n) (r .order) ≡ order
   pub modes-are : take (r .n) (r .modes) ≡ modes
+
+-- of the report and the state that a run gives and leaves
+abbrev pub Seen : Report → List Float → Shown → Type 0
+Seen r s (order o wires modes) = Ordered r o wires modes
+Seen r s (parity q x) = expectationZOf (r .n) s (r .modes) q ≡ Answers.accepted x
+Seen r s (fraction x) = r .fraction ≡ x
 
 -- ---- what the tapes are parsed to
 
@@ -228,8 +243,11 @@ module _ (t : List ℕ) (h : Header) (c : Content) (e : parse t ≡ accepted h c
 
 -- ---- the theorems
 
+empty-row : Row (tape 2 0 128 0 []) 0 (reportedOf (headed 2 0 128) [])
+empty-row = enough _ (headed 2 0 128) empty (parses .0) no-gate (omega arith) (omega arith) (no-items 128) (omega arith)
+
 row : {t : List ℕ} {k : ℕ} → Edge t k → (r : Report) × Row t k r
-row limit-128 = (_, enough _ (headed 2 0 128) empty (parses .0) no-gate (omega arith) (omega arith) (no-items 128) (omega arith))
+row limit-128 = (_, empty-row)
 row limit-127 = (_, short _ (headed 2 0 127) empty (parses .1) no-gate (omega arith) (omega arith) (no-items 127) (omega arith))
 row x-128 = (_, enough _ (headed 2 0 128) (only xOn0) (parses .2) (one-x gateX) (omega arith) (omega arith) (one-item 128) (omega arith))
 row x-127 = (_, short _ (headed 2 0 127) (only xOn0) (parses .3) (one-x gateX) (omega arith) (omega arith) (one-item 127) (omega arith))
@@ -243,20 +261,16 @@ module _ (work : List Float) (marks : List ℕ) (ops state : List Float) (roomy 
   pub edge : {t : List ℕ} {k : ℕ} → Edge t k → ran t work marks ops state .answer ≡ numbered k
   edge x = row-answer (row x .1) work marks ops state roomy
 
-  shows : {t : List ℕ} {h : Header} {gs : List Gate} {gaussian bad nonadjacent interactions : ℕ} {o : Ordering} {order modes : List ℕ}
-      → Row t 0 (reportedOf h gs) → Reporting h gs gaussian bad nonadjacent interactions o order modes
-      → Shows (ran t work marks ops state .report) o order modes
+  ordered : {t : List ℕ} {h : Header} {gs : List Gate} {gaussian bad nonadjacent interactions : ℕ} {o : Ordering} {wires modes : List ℕ}
+      → Row t 0 (reportedOf h gs) → Reporting h gs gaussian bad nonadjacent interactions o wires modes
+      → Ordered (ran t work marks ops state .report) o wires modes
   unfolding reportedOf reportOf
-  shows w y =
+  ordered w y =
       let e = row-run w work marks ops state roomy in record {
         ordering-is = ap (λ (c : Compiled). c .report .ordering) e ∙ y .ordering-is;
         order-is = ap (λ (c : Compiled). take (c .report .n) (c .report .order)) e ∙ y .order-is;
         modes-are = ap (λ (c : Compiled). take (c .report .n) (c .report .modes)) e ∙ y .modes-are;
       }
-
-  pub arranged : {t : List ℕ} {o : Ordering} {order modes : List ℕ} → Arranged t o order modes → Shows (ran t work marks ops state .report) o order modes
-  arranged cz-modes = shows cz-row (edges .2)
-  arranged iswap-order = shows iswap-row (edges .0)
 
 -- ---- "X on 0: Z is -1"
 
@@ -278,8 +292,18 @@ module _ (t : List ℕ) (h : Header) (c : Content) (m : Mat2) (e : parse t ≡ a
       ∙ ap (λ p. Answers.accepted (registerProduct (registerBits (contentOf p .gates)) (0 ∷ []))) e
       ∙ ap (λ gs. Answers.accepted (registerProduct (registerBits gs) (0 ∷ []))) x
 
--- of the row `x-128`
-pub x-on-0 : (work : List Float) (marks : List ℕ) (ops state : List Float) → Roomy work marks ops state
-    → zAfter (tape 2 0 128 0 x0) work marks ops state 0 ≡ Answers.accepted f-1
-x-on-0 work marks ops state roomy =
+-- ---- what every row shows
+
+blocks-none : reportedOf (headed 2 0 128) [] .blocks ≡ 0
+unfolding itemsOf labelsOf labelled unlabelled fuseOf resolvedOf fused compressed resolved withRests startOf upFrom
+blocks-none = omega (arith, blocks-items (headed 2 0 128) [])
+
+pub shown : {t : List ℕ} {x : Shown} → Shows t x → (work : List Float) (marks : List ℕ) (ops state : List Float) → Roomy work marks ops state
+    → Seen (ran t work marks ops state .report) (ranState t work marks ops state) x
+shown cz-modes work marks ops state roomy = ordered work marks ops state roomy cz-row (edges .2)
+shown iswap-order work marks ops state roomy = ordered work marks ops state roomy iswap-row (edges .0)
+shown x-parity work marks ops state roomy =
     x-turns (tape 2 0 128 0 x0) (headed 2 0 128) (only xOn0) gateX (parses .2) refl work marks ops state (edge work marks ops state roomy x-128)
+shown no-blocks work marks ops state roomy =
+    ap (λ (c : Compiled). c .report .fraction) (row-run empty-row work marks ops state roomy)
+    ∙ fraction-one (headed 2 0 128) [] blocks-none

@@ -124,9 +124,9 @@ edge (no-modes low high) s modes w ok = rw ok (unasked (covarianceOf 0 s) 0 (bas
 
 -- ---- the scope's own rows: [0, 0], and a contradiction before a qubit that is not below n
 
-zero-zero : (n : ℕ) → Edge (suc n) (product (0 ∷ 0 ∷ [])) +1
+pub zero-zero : (n : ℕ) → Edge (suc n) (product (0 ∷ 0 ∷ [])) +1
 zero-zero n = twice (suc n) 0 (omega arith)
 
-later-bad : Edge 1 (marginal (0 ∷ 0 ∷ 7 ∷ []) (0 ∷ 1 ∷ 0 ∷ [])) +0
+pub later-bad : Edge 1 (marginal (0 ∷ 0 ∷ 7 ∷ []) (0 ∷ 1 ∷ 0 ∷ [])) +0
 unfolding bitsOk allBelow
 later-bad = against 1 0 0 1 (7 ∷ []) (0 ∷ []) (omega arith) (λ e. omega arith) refl
