@@ -1,5 +1,8 @@
 //! CPU time of the calling thread: medians of alternating rounds, and the least of alternating passes.
 
+use crate::pieces::{Pass, Piece};
+use crate::rows::Row;
+
 /// Rounds of each side.
 const ROUNDS: usize = 21;
 /// CPU time of a round at least, in nanoseconds.
@@ -28,14 +31,15 @@ fn now() -> f64 {
 }
 
 /// The time of `passes` passes.
-fn spent(pass: &mut dyn FnMut(), passes: usize) -> f64 {
+fn spent(pass: Pass, passes: usize) -> f64 {
     let start = now();
     (0..passes).for_each(|_| pass());
     now() - start
 }
 
-/// The median time of one pass of each side, in nanoseconds; the sides take turns.
-pub fn medians(original: &mut dyn FnMut(), port: &mut dyn FnMut()) -> [f64; 2] {
+/// The median time of each side, in nanoseconds; the sides take turns.
+pub fn medians(piece: Piece) -> Row {
+    let Piece { name, calls, original, port } = piece;
     let slower = spent(original, 3).max(spent(port, 3)) / 3.0;
     let passes = (ROUND_NS / slower).ceil().max(1.0) as usize;
     let mut times = [Vec::new(), Vec::new()];
@@ -43,21 +47,20 @@ pub fn medians(original: &mut dyn FnMut(), port: &mut dyn FnMut()) -> [f64; 2] {
         times[0].push(spent(original, passes));
         times[1].push(spent(port, passes));
     }
-    times.map(|mut side| {
+    let middle = times.map(|mut side| {
         side.sort_by(f64::total_cmp);
         side[ROUNDS / 2] / passes as f64
-    })
+    });
+    Row::of(name, calls, middle)
 }
 
-/// Passes of which the least counts.
-const PASSES: usize = 400;
-
-/// The least time of one pass of each side, in nanoseconds; the sides take turns.
-pub fn least(original: &mut dyn FnMut(), port: &mut dyn FnMut()) -> [f64; 2] {
+/// The least time of so many passes of each side, in nanoseconds; the sides take turns.
+pub fn least(passes: usize, piece: Piece) -> Row {
+    let Piece { name, calls, original, port } = piece;
     let mut times = [f64::INFINITY; 2];
-    for _ in 0..PASSES {
+    for _ in 0..passes {
         times[0] = times[0].min(spent(original, 1));
         times[1] = times[1].min(spent(port, 1));
     }
-    times
+    Row::of(name, calls, times)
 }

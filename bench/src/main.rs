@@ -1,24 +1,6 @@
 //! The program `bench`: original and port in one process.
 
-mod asks;
-mod clock;
-mod compare;
-mod compile;
-mod compile_times;
-mod inputs;
-#[path = "../../tests/abi/jozkeral.rs"]
-#[allow(dead_code)]
-mod jozkeral;
-mod lent;
-mod original_side;
-mod pieces;
-mod port;
-mod run_times;
-mod runs;
-mod slice;
-mod state_times;
-mod states;
-
+use bench::{callgrind, compare, compile, counts, pieces, runs, times};
 use oracle::rng::Rng;
 use std::process::ExitCode;
 
@@ -29,7 +11,10 @@ bench runs LISTS            compares whole runs and queries: LISTS random lists 
 bench time                  the table of times
 bench time compile          the lines for compile alone
 bench time compile PART     those whose name has this part, with the heap as it is in a new process
-bench time run              the lines for whole runs alone";
+bench time run              the lines for whole runs alone
+bench count                 makes the calls that callgrind counts (bench/count.sh runs it)
+bench counted FILE RECORD   the table of the counts in callgrind's FILE; fails if one of the port's is more than 5 % above RECORD's
+bench record FILE           the counts in callgrind's FILE as lines of a record";
 
 const SEED: u64 = 1;
 
@@ -50,22 +35,40 @@ fn main() -> ExitCode {
             _ => usage(),
         },
         ["time", ..] => time(&words[1..]),
+        ["count" | "counted" | "record", ..] => count(&words),
         _ => usage(),
     }
 }
 
 /// Prints the times, or some lines of them.
 fn time(words: &[&str]) -> ExitCode {
-    let rng = || Rng::new(SEED);
+    if words.len() < 2 {
+        assert!(pieces::tapes::agree(SEED), "the sides agree");
+    }
     match words {
         [] => {
-            pieces::table(SEED);
-            compile_times::table(&mut rng());
-            run_times::table(&mut rng());
+            times::small(SEED);
+            times::compiles(SEED);
+            times::runs(SEED);
         }
-        ["compile"] => compile_times::table(&mut rng()),
-        ["compile", part] => compile_times::cold(&mut rng(), part),
-        ["run"] => run_times::table(&mut rng()),
+        ["compile"] => times::compiles(SEED),
+        ["compile", part] => times::cold(SEED, part),
+        ["run"] => times::runs(SEED),
+        _ => return usage(),
+    }
+    ExitCode::SUCCESS
+}
+
+/// Makes the calls for callgrind, or reads what it wrote.
+fn count(words: &[&str]) -> ExitCode {
+    let text = |file: &str| std::fs::read_to_string(file).expect("a file of counts");
+    let rows = |file: &str| counts::all(callgrind::read(&text(file)));
+    match words {
+        ["count"] if callgrind::present() => counts::pieces(SEED),
+        ["counted", file, record] => {
+            return end(counts::gate(&rows(file), &counts::recorded(&text(record))))
+        }
+        ["record", file] => print!("{}", counts::lines(&rows(file))),
         _ => return usage(),
     }
     ExitCode::SUCCESS

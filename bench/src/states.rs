@@ -2,8 +2,8 @@
 
 use crate::asks;
 use crate::compare::Tally;
+use crate::pieces::calls::{mixed, operation, Kind, SIZES};
 use crate::slice::{places, Slice};
-use crate::state_times::{mixed, operation, Kind, SIZES};
 use oracle::answer::answer_on;
 use oracle::bits::texts;
 use oracle::query::Query;

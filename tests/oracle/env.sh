@@ -44,3 +44,12 @@ build_bench() {
     export LEAVES_ARCHIVE ENGINE_ARCHIVE
     build bench
 }
+
+# Lets callgrind count the bench with these words; the counts go to the file COUNTED. Environment and addresses are the same every time.
+counted() {
+    command -v valgrind >/dev/null || fail "valgrind is needed (apt-get install valgrind)"
+    COUNTED=$CARGO_TARGET_DIR/callgrind.$(echo "$*" | tr ' ' .)
+    rm -f "$COUNTED"
+    env -i valgrind -q --tool=callgrind --instr-atstart=no --combine-dumps=yes \
+        --callgrind-out-file="$COUNTED" "$BENCH" "$@"
+}

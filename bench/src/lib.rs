@@ -1,0 +1,22 @@
+//! Original and port in one process: the same bits, then time, instructions and memory.
+
+mod asks;
+pub mod callgrind;
+pub mod circuits;
+mod clock;
+pub mod compare;
+pub mod compile;
+pub mod counts;
+mod inputs;
+#[path = "../../tests/abi/jozkeral.rs"]
+#[allow(dead_code)]
+pub mod jozkeral;
+mod lent;
+mod original_side;
+pub mod pieces;
+mod port;
+pub mod rows;
+pub mod runs;
+mod slice;
+mod states;
+pub mod times;

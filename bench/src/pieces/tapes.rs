@@ -1,0 +1,110 @@
+//! `compile` and whole runs: from the original's circuit, and from the port's bytes.
+
+use super::{Each, Piece};
+use crate::circuits::{brick_wall, many_cuts, random_neighbours, random_pairs, rotations, TAILED};
+use crate::compile::same;
+use crate::lent::Lent;
+use crate::rows::Row;
+use crate::runs;
+use oracle::compiled::answer::{answer, PLACES};
+use oracle::list::List;
+use oracle::rng::Rng;
+use oracle::tape::tape;
+use original::engines::gaussian::detect;
+use original::engines::gaussian::state::GaussianState;
+use std::hint::black_box;
+
+/// Qubits and gates of most of them.
+const QUBITS: usize = 60;
+pub const GATES: usize = 1000;
+
+/// Circuits with as many gates and blocks, and so many cuts of each block.
+const CUTS: [(&str, usize, [usize; 2]); 2] = [
+    ("compile 28 blocks of 324 cuts", 324, [17, 17]),
+    ("compile 28 blocks of 36 cuts", 36, [33, 1]),
+];
+
+type Named = (&'static str, List);
+
+fn compiled(rng: &mut Rng) -> [Named; 6] {
+    let [(many, _, equal), (few, _, unequal)] = CUTS;
+    [
+        ("compile brick wall", brick_wall(QUBITS, GATES)),
+        ("compile random neighbours", random_neighbours(rng, QUBITS, GATES)),
+        (many, many_cuts(rng, QUBITS, equal)),
+        ("compile rotations, phases", rotations(rng, QUBITS, GATES)),
+        ("compile random pairs, n = 128", random_pairs(rng, 128, GATES)),
+        (few, many_cuts(rng, QUBITS, unequal)),
+    ]
+}
+
+fn run(rng: &mut Rng) -> [Named; 4] {
+    [
+        ("run brick wall, n = 60", brick_wall(60, GATES)),
+        ("run brick wall, n = 128", brick_wall(128, GATES)),
+        ("run rotations, n = 60", rotations(rng, 60, GATES)),
+        ("run rotations, n = 128", rotations(rng, 128, GATES)),
+    ]
+}
+
+/// Whether both sides agree on all of them.
+pub fn agree(seed: u64) -> bool {
+    let rng = || Rng::new(seed);
+    compiled(&mut rng()).iter().all(|(_, list)| same(list))
+        && run(&mut rng()).iter().all(|(_, l)| runs::same(l, &tape(l).expect("a tape")))
+}
+
+/// `compile` of those whose name has this part.
+pub fn compiles(rng: &mut Rng, part: &str, each: Each) {
+    for (name, list) in compiled(rng).iter().filter(|(name, _)| name.contains(part)) {
+        compile(name, list, each);
+    }
+}
+
+pub fn runs(rng: &mut Rng, each: Each) {
+    run(rng).iter().for_each(|(name, list)| whole_run(name, list, each));
+}
+
+/// One cut: the difference between blocks of many and of few cuts.
+pub fn one_cut(rows: &[Row]) -> Option<Row> {
+    let find = |name: &str| rows.iter().find(|row| row.name == name);
+    let [(many, more, _), (few, less, _)] = CUTS;
+    let (many, few) = (find(many)?.sides, find(few)?.sides);
+    Some(Row::of("one cut", TAILED * (more - less), [many[0] - few[0], many[1] - few[1]]))
+}
+
+/// The slices for a list, and its tape.
+fn lent(list: &List) -> (Lent, Vec<u8>) {
+    let operations = answer(list).0.ops.len() / PLACES;
+    (Lent::new(list.gates.len(), list.n, operations, 0), tape(list).expect("a tape"))
+}
+
+pub fn compile(name: &str, list: &List, each: Each) {
+    let (circuit, options) = (list.circuit(), list.options().detect);
+    let (mut lent, bytes) = lent(list);
+    each(Piece {
+        name,
+        calls: 1,
+        original: &mut || {
+            black_box(detect::compile(&circuit, &options));
+        },
+        port: &mut || {
+            black_box(lent.compile(&bytes));
+        },
+    });
+}
+
+pub fn whole_run(name: &str, list: &List, each: Each) {
+    let (circuit, options) = (list.circuit(), list.options());
+    let (mut lent, bytes) = lent(list);
+    each(Piece {
+        name,
+        calls: 1,
+        original: &mut || {
+            black_box(GaussianState::from_circuit(&circuit, &options).is_ok());
+        },
+        port: &mut || {
+            assert_eq!(lent.run(&bytes).refused, [0, 0]);
+        },
+    });
+}
