@@ -7,6 +7,7 @@ mod clock;
 pub mod compare;
 pub mod compile;
 pub mod counts;
+pub mod growth;
 mod inputs;
 #[path = "../../tests/abi/jozkeral.rs"]
 #[allow(dead_code)]
@@ -14,6 +15,7 @@ pub mod jozkeral;
 mod lent;
 mod original_side;
 pub mod pieces;
+pub mod plot;
 mod port;
 pub mod rows;
 pub mod runs;

@@ -1,6 +1,6 @@
 //! The program `bench`: original and port in one process.
 
-use bench::{callgrind, compare, compile, counts, pieces, runs, times};
+use bench::{callgrind, compare, compile, counts, growth, pieces, plot, runs, times};
 use oracle::rng::Rng;
 use std::process::ExitCode;
 
@@ -14,7 +14,9 @@ bench time compile PART     those whose name has this part, with the heap as it 
 bench time run              the lines for whole runs alone
 bench count                 makes the calls that callgrind counts (bench/count.sh runs it)
 bench counted FILE RECORD   the table of the counts in callgrind's FILE; fails if one of the port's is more than 5 % above RECORD's
-bench record FILE           the counts in callgrind's FILE as lines of a record";
+bench record FILE           the counts in callgrind's FILE as lines of a record
+bench count growth          makes the calls that callgrind counts for the next (bench/growth.sh runs it)
+bench growth FILE SVG       how cost grows with qubits and gates: the counts in callgrind's FILE, and times; a picture to SVG";
 
 const SEED: u64 = 1;
 
@@ -35,7 +37,7 @@ fn main() -> ExitCode {
             _ => usage(),
         },
         ["time", ..] => time(&words[1..]),
-        ["count" | "counted" | "record", ..] => count(&words),
+        ["count" | "counted" | "record" | "growth", ..] => count(&words),
         _ => usage(),
     }
 }
@@ -65,8 +67,13 @@ fn count(words: &[&str]) -> ExitCode {
     let rows = |file: &str| counts::all(callgrind::read(&text(file)));
     match words {
         ["count"] if callgrind::present() => counts::pieces(SEED),
+        ["count", "growth"] if callgrind::present() => growth::pieces(SEED, &mut callgrind::count),
         ["counted", file, record] => {
             return end(counts::gate(&rows(file), &counts::recorded(&text(record))))
+        }
+        ["growth", file, svg] => {
+            let curves = growth::curves(SEED, &callgrind::read(&text(file)));
+            std::fs::write(svg, plot::svg(&curves)).expect("a place for the picture");
         }
         ["record", file] => print!("{}", counts::lines(&rows(file))),
         _ => return usage(),

@@ -85,6 +85,14 @@ impl Both {
         Both { n, original, port }
     }
 
+    /// Bytes of a state on each side: the floats of the vacuum.
+    pub fn bytes(n: usize) -> [f64; 2] {
+        let original = GaussianState::vacuum(n);
+        let port = Slice::of(n, &original);
+        let floats = [access::m(&original).len() + access::d(&original).len(), port.places.len()];
+        floats.map(|count| (size_of::<f64>() * count) as f64)
+    }
+
     /// The state as the port is asked.
     fn asked(&self) -> State<'_> {
         State { n: self.n, slice: &self.port.places, modes: &self.port.modes }
