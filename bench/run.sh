@@ -1,5 +1,6 @@
 #!/bin/sh
-# Compares port and original bit for bit, then prints the table of times.
+# Compares port and original bit for bit, then prints the tables of times, memory and instructions; fails if the port takes more
+# instructions than recorded.
 #   bench/run.sh ORIGINAL_DIR
 set -eu
 ROOT=$(cd "$(dirname "$0")/.." && pwd)
@@ -10,3 +11,5 @@ build_bench
 "$BENCH" compile 20000
 "$BENCH" runs 20000
 "$BENCH" time
+"$MEMORY"
+"$ROOT/bench/count.sh" "$QSIM_SRC"

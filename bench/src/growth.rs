@@ -108,9 +108,12 @@ pub fn pieces(seed: u64, each: Each) {
         tapes::whole_run(&RUN.at(n), &wall, each);
         tapes::compile(&COMPILE.at(n), &wall, each);
     }
+    let turns = rotations(rng, QUBITS, GATES[GATES.len() - 1]);
     for gates in GATES {
         tapes::compile(&WALL.at(gates), &brick_wall(QUBITS, gates), each);
-        tapes::compile(&TURNS.at(gates), &rotations(rng, QUBITS, gates), each);
+        let mut first = turns.clone();
+        first.gates.truncate(gates);
+        tapes::compile(&TURNS.at(gates), &first, each);
     }
 }
 

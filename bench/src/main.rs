@@ -1,6 +1,6 @@
 //! The program `bench`: original and port in one process.
 
-use bench::{callgrind, compare, compile, counts, growth, pieces, plot, runs, times};
+use bench::{callgrind, compare, compile, counts, growth, plot, runs, times};
 use oracle::rng::Rng;
 use std::process::ExitCode;
 
@@ -44,9 +44,6 @@ fn main() -> ExitCode {
 
 /// Prints the times, or some lines of them.
 fn time(words: &[&str]) -> ExitCode {
-    if words.len() < 2 {
-        assert!(pieces::tapes::agree(SEED), "the sides agree");
-    }
     match words {
         [] => {
             times::small(SEED);

@@ -20,30 +20,30 @@ pub fn small(seed: u64) {
 
 /// `compile` on each tape, with a warm heap.
 pub fn compiles(seed: u64) {
+    assert!(tapes::compiles_agree(&mut Rng::new(seed)), "the sides agree");
     warm_heap();
     head("the least of many", "ns");
     let mut rows = Vec::new();
-    tapes::compiles(&mut Rng::new(seed), "", &mut |piece| rows.push(printed(piece)));
+    tapes::compiles(&mut Rng::new(seed), "", &mut |piece| {
+        let row = least(PASSES, piece);
+        row.print();
+        rows.push(row);
+    });
     tapes::one_cut(&rows).iter().for_each(Row::print);
 }
 
 /// `compile` on the tapes whose name has this part, with the heap as it is in a new process.
 pub fn cold(seed: u64, part: &str) {
     head("the least of many", "ns");
-    tapes::compiles(&mut Rng::new(seed), part, &mut |piece| drop(printed(piece)));
+    tapes::compiles(&mut Rng::new(seed), part, &mut |piece| least(PASSES, piece).print());
 }
 
 /// Whole runs, with a warm heap.
 pub fn runs(seed: u64) {
+    assert!(tapes::runs_agree(&mut Rng::new(seed)), "the sides agree");
     warm_heap();
     head("the least of many", "ns");
-    tapes::runs(&mut Rng::new(seed), &mut |piece| drop(printed(piece)));
-}
-
-fn printed(piece: Piece) -> Row {
-    let row = least(PASSES, piece);
-    row.print();
-    row
+    tapes::runs(&mut Rng::new(seed), &mut |piece| least(PASSES, piece).print());
 }
 
 /// The original takes vectors from the heap. Once a large block was freed, the allocator no longer gives pages back after each

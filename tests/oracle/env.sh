@@ -6,6 +6,7 @@ REGISTRY=${ORACLE_REGISTRY:-/usr/share/cargo/registry}
 CARGO_TARGET_DIR=$ROOT/target/oracle
 ORACLE=$CARGO_TARGET_DIR/release/oracle
 BENCH=$CARGO_TARGET_DIR/release/bench
+MEMORY=$CARGO_TARGET_DIR/release/memory
 export CARGO_TARGET_DIR
 
 fail() {
@@ -45,11 +46,12 @@ build_bench() {
     build bench
 }
 
-# Lets callgrind count the bench with these words; the counts go to the file COUNTED. Environment and addresses are the same every time.
+# Lets callgrind count the bench with these words; the counts go to the file COUNTED. The environment is empty, so that addresses are the
+# same every time; and memset and memcpy are those without `rep stosb` and `rep movsb`, of which callgrind counts every byte.
 counted() {
     command -v valgrind >/dev/null || fail "valgrind is needed (apt-get install valgrind)"
     COUNTED=$CARGO_TARGET_DIR/callgrind.$(echo "$*" | tr ' ' .)
     rm -f "$COUNTED"
-    env -i valgrind -q --tool=callgrind --instr-atstart=no --combine-dumps=yes \
-        --callgrind-out-file="$COUNTED" "$BENCH" "$@"
+    env -i GLIBC_TUNABLES=glibc.cpu.hwcaps=-ERMS "$(command -v valgrind)" -q --tool=callgrind \
+        --instr-atstart=no --combine-dumps=yes --callgrind-out-file="$COUNTED" "$BENCH" "$@"
 }
