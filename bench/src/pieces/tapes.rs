@@ -10,6 +10,7 @@ use oracle::compiled::answer::{answer, PLACES};
 use oracle::list::List;
 use oracle::rng::Rng;
 use oracle::tape::tape;
+use oracle::traced::traced;
 use original::engines::gaussian::detect;
 use original::engines::gaussian::state::GaussianState;
 use std::hint::black_box;
@@ -47,9 +48,13 @@ fn run(rng: &mut Rng) -> [Named; 4] {
     ]
 }
 
-/// Whether both sides compile all of them to the same.
+/// Whether both sides compile all of them to the same, and as many cuts are tried as their names say.
 pub fn compiles_agree(rng: &mut Rng) -> bool {
-    compiled(rng).iter().all(|(_, list)| same(list))
+    let named = |name: &str| CUTS.iter().find(|(other, ..)| *other == name);
+    let cuts = |name: &str, list: &List| {
+        named(name).is_none_or(|(_, cuts, _)| traced(list).tried == TAILED * cuts)
+    };
+    compiled(rng).iter().all(|(name, list)| same(list) && cuts(name, list))
 }
 
 /// Whether both sides run all of them to the same.
