@@ -10,7 +10,6 @@ pub mod counts;
 pub mod growth;
 mod inputs;
 #[path = "../../tests/abi/jozkeral.rs"]
-#[allow(dead_code)]
 pub mod jozkeral;
 mod lent;
 mod original_side;
