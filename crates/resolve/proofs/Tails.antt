@@ -5,7 +5,7 @@ use mathlib.Core.Bool.{Bool, true, false, cond, true≢false}
 use mathlib.Core.List.{List, [], _∷_, _++_, append-assoc, append-nil}
 use Prim.Native.Nat.{ℕ, zero, suc, _+_, _*_, _-_, _≤_, _<_}
 use native.Mathlib.Omega.{arith}
-use native.Mathlib.Nat.{le-of-suc-le-suc, eq-or-lt-of-le}
+use native.Mathlib.Nat.{le-of-suc-le-suc, eq-or-lt-of-le, add-zero}
 use native.Mathlib.Numerals.{add-one}
 use lib.Dec.{eqb}
 use lib.ListN.{length, getD, take, length-append}
@@ -24,7 +24,7 @@ use Rattle.fuse.specs.Layout.{eventAt, matrix2Of, oneAt, blockAt, oneTest}
 use Rattle.fuse.proofs.Places.{one-is, block-is, event-alike}
 use Rattle.work.specs.Marks.{markAt}
 use Rattle.resolve.specs.Cuts.{ones, ahead, prefixOf}
-use Rattle.resolve.specs.Slots.{todo, RowOnly, Prefixes}
+use Rattle.resolve.specs.Slots.{todo, RowOnly, PassedOver, Prefixes}
 
 -- ---- the tail, event by event
 
@@ -72,6 +72,35 @@ module _ (xs : List Float) (us : List ℕ) (s j g : ℕ) where
       by true e =
           rw e (ahead-one s (markAt us j 1) (matrix2Of xs j) (todo xs us (j + 1) g) (sym (ap (λ b. cond b (eqb (markAt us j 1) s) false) e) ∙ o))
       by false e = absurd (true≢false (sym o ∙ ap (λ b. cond b (eqb (markAt us j 1) s) false) e))
+
+-- ---- gates of other slots
+
+-- n of them
+tail-past : (xs : List Float) (us : List ℕ) (s j g n : ℕ) → j + n ≤ g
+    → ((i : ℕ) → j ≤ i → i < j + n → (blockAt us s i ≡ false) × (oneAt us s i ≡ false)) → ahead s (todo xs us j g) ≡ ahead s (todo xs us (j + n) g)
+tail-past xs us s j g zero h none = ap (λ k. ahead s (todo xs us k g)) (sym (add-zero j))
+tail-past xs us s j g (suc n) h none =
+    let here = none j (omega arith) (omega arith) in
+    tail-skip xs us s j g (omega arith) (here .0) (here .1)
+    ∙ tail-past xs us s (j + 1) g n (omega arith) (λ i a b. none i (omega arith) (omega arith))
+    ∙ ap (λ k. ahead s (todo xs us k g)) (omega arith)
+
+tail-over : (xs : List Float) (us : List ℕ) (s j g r : ℕ) → PassedOver us s j g r → ahead s (todo xs us j g) ≡ ahead s (todo xs us r g)
+tail-over xs us s j g r p =
+    let e : j + (r - j) ≡ r = omega (arith, p .low) in
+    tail-past xs us s j g (r - j) (omega (arith, p .low, p .high)) (λ i a b. p .none i a (omega (arith, p .low)))
+    ∙ ap (λ k. ahead s (todo xs us k g)) e
+
+module _ (us : List ℕ) (s j g : ℕ) where
+  pub pass-none : j ≤ g → PassedOver us s j g j
+  pass-none h = record { low = omega arith; high = h; none = λ i a b. absurd (omega arith) }
+
+  pub pass-more : (i : ℕ) → PassedOver us s j g i → i < g → blockAt us s i ≡ false → oneAt us s i ≡ false → PassedOver us s j g (i + 1)
+  pass-more i p h b o = record {
+    low = omega (arith, p .low);
+    high = omega arith;
+    none = λ q a c. ⊎-elim (λ (e : q ≡ i). (ap (blockAt us s) e ∙ b, ap (oneAt us s) e ∙ o)) (λ l. p .none q a l) (eq-or-lt-of-le (le-of-suc-le-suc (rw (← add-one i) c)));
+  }
 
 -- ---- a row of the records
 
@@ -170,6 +199,20 @@ module _ (xs ys : List Float) (us : List ℕ) (k g s row len j : ℕ) (acc : Mat
     few = omega (arith, i .few);
     only = i .only;
     tail = ap (λ l. i .gs ++ l) (sym (tail-skip xs us s j g h b o)) ∙ i .tail;
+    now = i .now;
+    each = i .each;
+  }
+
+  -- the gates from j on and before r are passed over
+  pub gather-over : (r : ℕ) → PassedOver us s j g r → Gathering xs ys us k g s row len r acc
+  gather-over r p = record {
+    gs = i .gs;
+    count = i .count;
+    start = omega (arith, i .start, p .low);
+    end = p .high;
+    few = omega (arith, i .few, p .low);
+    only = i .only;
+    tail = ap (λ l. i .gs ++ l) (sym (tail-over xs us s j g r p)) ∙ i .tail;
     now = i .now;
     each = i .each;
   }

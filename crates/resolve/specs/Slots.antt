@@ -14,7 +14,7 @@ use Rattle.gate.specs.declared.matrix.Mat2.{Mat2}
 use Rattle.work.specs.Marks.{markAt, putMark}
 use Rattle.work.specs.Columns.{kindColumn, aColumn, bColumn, cColumn, labColumn, contentColumn, goneKind, oneItem, matchItem, neitherItem, opaqueItem}
 use Rattle.fuse.specs.Events.{Event}
-use Rattle.fuse.specs.Layout.{Within, matrix2Of, matrix4Of, putMatrix4Of, eventAt}
+use Rattle.fuse.specs.Layout.{Within, matrix2Of, matrix4Of, putMatrix4Of, eventAt, oneAt, blockAt}
 use Rattle.majorana.specs.Classify.{residualOf}
 use Rattle.majorana.specs.declared.classify.Class2.{Class2}
 use Rattle.resolve.specs.declared.choose.Search.{Search}
@@ -96,6 +96,12 @@ secondRow xs t = mat2At xs (64 * t + 48)
 pub record RowOnly (row : ℕ) (xs ys : List Float) : Type 0 where
   pub size : length ys ≡ length xs
   pub same : (i q : ℕ) → q < 64 → (q < row) ⊎ (row + 8 ≤ q) → getD ys (64 * i + q) nan ≡ getD xs (64 * i + q) nan
+
+-- no gate from j on and before r is on s
+pub record PassedOver (us : List ℕ) (s j g r : ℕ) : Type 0 where
+  pub low : j ≤ r
+  pub high : r ≤ g
+  pub none : (i : ℕ) → j ≤ i → i < r → (blockAt us s i ≡ false) × (oneAt us s i ≡ false)
 
 -- the tail on s from gate k on, of r gates: what each cut takes stands in the rows
 pub record Prefixes (xs ys : List Float) (us : List ℕ) (k g s row r : ℕ) : Type 0 where

@@ -3,9 +3,10 @@ ghost use mathlib.Core.Path.{_≡_};
 ghost use mathlib.Core.Bool.{_||_};
 ghost use Prim.Native.Nat.{_+_, _*_, _≤_, _<_};
 ghost use lib.ListN.{length};
+ghost use Rattle.work.specs.Marks.{Records};
 ghost use Rattle.fuse.specs.Layout.{Room};
 ghost use Rattle.resolve.specs.Cuts.{cuts, inWindow};
-ghost use Rattle.resolve.specs.Slots.{Prefixes};
+ghost use Rattle.resolve.specs.Slots.{PassedOver, Prefixes};
 use fuse::block_on;
 use fuse::either;
 use fuse::matrix2;
@@ -35,6 +36,25 @@ pub fn cut_count(len: usize) -> usize
     2 * CUT_WINDOW + 2
 }
 
+// The first gate from j on, below g, that is on slot s; g if there is none. Apart from the tail, so that
+// no matrix is held while the gates of other slots are passed over.
+fn next_on(u: &[u32], j: usize, g: usize, s: u32) -> usize
+    requires { ⌜ Records (now u) g × (j ≤ g) ⌝ }
+    ensures { λ r. ⌜ PassedOver (now (u .entry)) s j g r ⌝ }
+{
+    let mut i = j;
+    while i < g {
+        if block_on(u, i, s) {
+            return i;
+        }
+        if one_on(u, i, s) {
+            return i;
+        }
+        i += 1;
+    }
+    i
+}
+
 // The tail on slot s after gate k - 1: what each of its cuts takes, cut t in a row of record t. The
 // answer is its length.
 pub fn prefixes(w: &mut [f64], u: &[u32], k: usize, g: usize, s: u32, row: usize) -> usize
@@ -44,7 +64,7 @@ pub fn prefixes(w: &mut [f64], u: &[u32], k: usize, g: usize, s: u32, row: usize
     let mut acc = identity2();
     store2(w, row, acc);
     let mut len = 0;
-    let mut j = k;
+    let mut j = next_on(u, k, g, s);
     while j < g {
         if block_on(u, j, s) {
             return len;
@@ -54,7 +74,7 @@ pub fn prefixes(w: &mut [f64], u: &[u32], k: usize, g: usize, s: u32, row: usize
             len += 1;
             store2(w, 64 * len + row, acc);
         }
-        j += 1;
+        j = next_on(u, j + 1, g, s);
     }
     len
 }

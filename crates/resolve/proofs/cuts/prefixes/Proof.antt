@@ -1,18 +1,14 @@
--- `resolve::cuts::prefixes` meets its contract: the loop has gathered the tail up to j.
+-- `resolve::cuts::prefixes` meets its contract: the loop has gathered the tail up to j, and what lies between two gates of the slot is passed over.
 -- Assumes nothing.
-use mathlib.Core.Path.{_≡_, refl, sym, ap, ap₂, _∙_}
+use mathlib.Core.Path.{_≡_, sym, ap, _∙_}
+use mathlib.Core.Logic.{⊎-elim}
+use Prim.Native.Nat.{_+_, _*_, _-_, _≤_, _<_}
 use native.Mathlib.Omega.{arith}
 use borrow.Author.Needs.{needs}
-use Prim.Native.Nat.{ℕ, _+_, _*_, _-_, _≤_, _<_}
-use mathlib.Core.Logic.{⊎-elim}
-use mathlib.Core.Path.{subst}
-use lib.Ieee.{Float}
-use mathlib.Core.List.{List}
-use Rattle.gate.specs.declared.matrix.Mat2.{Mat2}
-use Rattle.resolve.proofs.Tails.{Gathering, gather-none, gather-end, gather-block, gather-skip, gather-one, prefixes-after}
 use lib.ListN.{length}
 use Rattle.gate.specs.Lent.{mat2At}
 use Rattle.gate.proofs.Stored.{mat2-back, length-row}
+use Rattle.resolve.proofs.Tails.{Gathering, gather-none, gather-end, gather-block, gather-skip, gather-over, gather-one, prefixes-after}
 use Rattle.resolve.proofs.cuts.prefixes.Statement.{statement}
 use Rattle.resolve.proofs.cuts.prefixes.Tie as tie
 
@@ -25,66 +21,132 @@ abbrev μ-loop : tie.MeasureT-loop
 store2-requires : tie.Need-store2-requires Inv-loop μ-loop
 store2-requires c κs = omega (arith, c .before .before .before .before .pre)
 
+next-on-requires : tie.Need-next-on-requires Inv-loop μ-loop
+next-on-requires c κs = let pre = c .before .before .before .before .before .before .before .pre in (omega (arith, pre), pre .2)
+
+-- ---- before the loop
+
+-- the slice with cut 0 in it is as long as it was
+long : (c : tie.After-next-on Inv-loop μ-loop)
+    → length (c .before .before .before .store2 .last .0) ≡ length (c .before .before .before .before .before .before .before .before .args .w .now)
+long c = ap length (c .before .before .before .store2 .ensures) ∙ length-row _ _ _
+
 loop-holds : tie.Need-loop-holds Inv-loop μ-loop
 loop-holds c =
-    let a = c .before .before .before .before .before .before .before .args in
-    gather-none (c .before .before .store2 .last .0) (a .u .now) (a .k) (a .g) (a .s) (a .row) (c .before .before .before .before .identity2 .result) (c .before .before .before .before .before .before .before .pre .2) (c .before .before .before .before .identity2 .ensures) (ap (λ l. mat2At l (a .row)) (c .before .before .store2 .ensures) ∙ mat2-back (a .w .now) (a .row) (c .before .before .before .before .identity2 .result) (omega (arith, c .before .before .before .before .before .before .before .pre)))
+    let e = c .before .before .before .before .before .before .before .before in
+    let a = e .args in
+    let id = c .before .before .before .before .before .identity2 in
+    let w = c .before .before .before .store2 .last .0 in
+    gather-over w w (a .u .now) (a .k) (a .g) (a .s) (a .row) 0 (a .k) (id .result) (e .pre .3) (e .pre .4)
+    (gather-none w (a .u .now) (a .k) (a .g) (a .s) (a .row) (id .result) (e .pre .2) (id .ensures)
+    (ap (λ l. mat2At l (a .row)) (c .before .before .before .store2 .ensures) ∙ mat2-back (a .w .now) (a .row) (id .result) (omega (arith, e .pre))))
+    (c .next-on .result) (c .next-on .ensures)
+
+-- ---- in the loop
+
+-- what is read and written stands in the slice, and nothing wraps
+inside : (c : tie.In-loop Inv-loop μ-loop)
+    → (64 * c .before .loop .j + 64 ≤ length (c .before .loop .w))
+    × (64 * c .before .loop .len + 128 ≤ length (c .before .loop .w))
+    × (64 * (c .before .loop .len + 1) + c .before .before .before .before .before .before .before .before .before .before .args .row + 8
+    ≤ length (c .before .loop .w))
+inside c =
+    let pre = c .before .before .before .before .before .before .before .before .before .before .pre in
+    let i = c .before .loop .inv in (
+      omega (arith, pre, c .loop-test .taken, i .only .size, long (c .before .before)),
+      omega (arith, pre, c .loop-test .taken, i .few, i .only .size, long (c .before .before)),
+      omega (arith, pre, c .loop-test .taken, i .few, i .only .size, long (c .before .before)),
+    )
 
 block-on-requires : tie.Need-block-on-requires Inv-loop μ-loop
-block-on-requires c κs = omega (arith, c .before .before .before .before .before .before .before .before .before .pre)
-
-same-length : tie.Need-same-length Inv-loop μ-loop
-same-length c = c .before .before .before .loop .inv .only .size ∙ ap length (c .before .before .before .before .before .before .store2 .ensures) ∙ length-row _ _ _
-
-returns : tie.Need-returns Inv-loop μ-loop
-returns c =
-    let a = c .before .before .before .before .before .before .before .before .before .before .before .args in
-    let l = c .before .before .before .loop in
-    prefixes-after (a .w .now) (c .before .before .before .before .before .before .store2 .last .0) (l .w) (a .u .now) (a .k) (a .g) (a .s) (a .row) (l .len) (c .before .before .before .before .before .before .before .before .identity2 .result) (c .before .before .before .before .before .before .before .before .before .before .before .pre .3) (c .before .before .before .before .before .before .before .before .before .before .before .pre .4) (c .before .before .before .before .before .before .store2 .ensures)
-    (gather-block (c .before .before .before .before .before .before .store2 .last .0) (l .w) (a .u .now) (a .k) (a .g) (a .s) (a .row) (l .len) (l .j) (l .acc) (c .before .before .before .before .before .before .before .before .before .before .before .pre .3) (c .before .before .before .before .before .before .before .before .before .before .before .pre .4) (l .inv) (c .before .before .loop-test .taken) (sym (c .before .block-on .ensures) ∙ c .if1 .taken))
+block-on-requires c κs = omega (arith, c .before .before .before .before .before .before .before .before .before .before .pre, c .loop-test .taken)
 
 one-on-requires : tie.Need-one-on-requires Inv-loop μ-loop
-one-on-requires c κs = omega (arith, c .before .before .before .before .before .before .before .before .before .before .before .pre, c .before .before .loop-test .taken)
+one-on-requires c κs = block-on-requires (c .before .before) κs
 
 matrix2-requires : tie.Need-matrix2-requires Inv-loop μ-loop
-matrix2-requires c κs = omega (arith, c .before .before .before .before .before .before .before .before .before .before .before .before .before .before .pre, c .before .before .before .before .before .loop-test .taken, c .before .before .before .before .before .before .loop .inv .only .size, ap length (c .before .before .before .before .before .before .before .before .before .store2 .ensures) ∙ length-row _ _ _)
+matrix2-requires c κs = inside (c .before .before .before .before .before) .0
 
 add-len : tie.Need-add-len Inv-loop μ-loop
-add-len c = omega (arith, c .before .before .before .before .before .before .before .before .before .before .before .before .before .before .before .before .good, c .before .before .before .before .before .before .before .before .before .before .before .before .before .before .before .before .pre, c .before .before .before .before .before .before .before .loop-test .taken, c .before .before .before .before .before .before .before .before .loop .inv .few)
+add-len c =
+    let l = c .before .before .before .before .before .before .before in
+    omega (arith, l .before .before .before .before .before .before .before .before .before .before .good, inside l .1)
 
 mul-store2 : tie.Need-mul-store2 Inv-loop μ-loop
-mul-store2 c = omega (arith, c .before .before .before .before .before .before .before .before .before .before .before .before .before .before .before .before .before .good, c .before .before .before .before .before .before .before .before .before .before .before .before .before .before .before .before .before .pre, c .before .before .before .before .before .before .before .before .loop-test .taken, c .before .before .before .before .before .before .before .before .before .loop .inv .few)
+mul-store2 c =
+    let l = c .before .before .before .before .before .before .before .before in
+    omega (arith, l .before .before .before .before .before .before .before .before .before .before .good, inside l .2)
 
 add-store2 : tie.Need-add-store2 Inv-loop μ-loop
-add-store2 c = omega (arith, c .before .before .before .before .before .before .before .before .before .before .before .before .before .before .before .before .before .good, c .before .before .before .before .before .before .before .before .before .before .before .before .before .before .before .before .before .pre, c .before .before .before .before .before .before .before .before .loop-test .taken, c .before .before .before .before .before .before .before .before .before .loop .inv .few)
+add-store2 c =
+    let l = c .before .before .before .before .before .before .before .before in
+    omega (arith, l .before .before .before .before .before .before .before .before .before .before .good, inside l .2)
 
 store2-requires-2 : tie.Need-store2-requires-2 Inv-loop μ-loop
-store2-requires-2 c κs = omega (arith, c .before .before .before .before .before .before .before .before .before .before .before .before .before .before .before .before .before .good, c .before .before .before .before .before .before .before .before .before .before .before .before .before .before .before .before .before .pre, c .before .before .before .before .before .before .before .before .loop-test .taken, c .before .before .before .before .before .before .before .before .before .loop .inv .few, c .before .before .before .before .before .before .before .before .before .loop .inv .only .size, ap length (c .before .before .before .before .before .before .before .before .before .before .before .before .store2 .ensures) ∙ length-row _ _ _)
+store2-requires-2 c κs = inside (c .before .before .before .before .before .before .before .before) .2
 
-add-j : tie.Need-add-j Inv-loop μ-loop
-add-j c = omega (arith, c .before .before .before .before .before .before .before .before .before .before .before .before .before .good, c .before .before .before .before .before .before .before .before .before .before .before .before .before .pre, c .before .before .before .before .loop-test .taken)
+next-on-requires-2 : tie.Need-next-on-requires-2 Inv-loop μ-loop
+next-on-requires-2 c κs =
+    let pre = c .before .before .before .before .before .before .before .before .before .before .before .before .before .before .pre in
+    (omega (arith, pre), omega (arith, c .before .before .before .before .loop-test .taken))
 
 loop-less : tie.Need-loop-less Inv-loop μ-loop
-loop-less c = omega (arith, c .before .before .before .before .loop-test .taken)
+loop-less c = omega (arith, c .before .before .before .before .before .loop-test .taken, c .next-on2 .ensures .low, c .next-on2 .ensures .high)
 
 loop-again : tie.Need-loop-again Inv-loop μ-loop
 loop-again c =
-    let a = c .before .before .before .before .before .before .before .before .before .before .before .before .before .args in
-    let l = c .before .before .before .before .before .loop in
+    let test = c .before .before .before .before .before in
+    let l = test .before .loop in
+    let e = test .before .before .before .before .before .before .before .before .before .before in
+    let a = e .args in
+    let w₀ = test .before .before .before .before .before .store2 .last .0 in
+    let room : 64 * l .len + 128 ≤ length w₀ = omega (arith, inside test .1, l .inv .only .size) in
+    let low = e .pre .3 in
+    let high = e .pre .4 in
+    let one = c .before .before .one-on in
     ⊎-elim
-    (λ w. rw (w .8, w .9, w .10, w .5 .ensures) (gather-one (c .before .before .before .before .before .before .before .before .store2 .last .0) (l .w) (a .u .now) (a .k) (a .g) (a .s) (a .row) (l .len) (l .j) (l .acc) (c .before .before .before .before .before .before .before .before .before .before .before .before .before .pre .3) (c .before .before .before .before .before .before .before .before .before .before .before .before .before .pre .4) (l .inv) (w .2 .result) (w .3 .result) (c .before .before .before .before .loop-test .taken) (omega (arith, c .before .before .before .before .before .before .before .before .before .before .before .before .before .pre, c .before .before .before .before .loop-test .taken, l .inv .few, ap length (c .before .before .before .before .before .before .before .before .store2 .ensures) ∙ length-row _ _ _)) (sym (c .before .one-on .ensures) ∙ w .0 .taken) (w .2 .ensures) (w .3 .ensures)))
-    (λ w. rw (w .1, w .2, w .3) (gather-skip (c .before .before .before .before .before .before .before .before .store2 .last .0) (l .w) (a .u .now) (a .k) (a .g) (a .s) (a .row) (l .len) (l .j) (l .acc) (c .before .before .before .before .before .before .before .before .before .before .before .before .before .pre .3) (c .before .before .before .before .before .before .before .before .before .before .before .before .before .pre .4) (l .inv) (c .before .before .before .before .loop-test .taken) (sym (c .before .before .before .block-on .ensures) ∙ c .before .before .if1 .left) (sym (c .before .one-on .ensures) ∙ w .0 .left)))
-    (c .if2 .came)
+    (λ w. rw (w .8, w .9, w .10, w .5 .ensures)
+    (gather-over w₀ _ (a .u .now) (a .k) (a .g) (a .s) (a .row) (l .len + 1) (l .j + 1) _ low high
+    (gather-one w₀ (l .w) (a .u .now) (a .k) (a .g) (a .s) (a .row) (l .len) (l .j) (l .acc) low high (l .inv) (w .2 .result) (w .3 .result)
+    (test .loop-test .taken) room (sym (one .ensures) ∙ w .0 .taken) (w .2 .ensures) (w .3 .ensures)) (c .next-on2 .result) (c .next-on2 .ensures)))
+    (λ w. rw (w .1, w .2, w .3)
+    (gather-over w₀ (l .w) (a .u .now) (a .k) (a .g) (a .s) (a .row) (l .len) (l .j + 1) (l .acc) low high
+    (gather-skip w₀ (l .w) (a .u .now) (a .k) (a .g) (a .s) (a .row) (l .len) (l .j) (l .acc) low high (l .inv) (test .loop-test .taken)
+    (sym (c .before .before .before .before .block-on .ensures) ∙ c .before .before .before .if1 .left) (sym (one .ensures) ∙ w .0 .left))
+    (c .next-on2 .result) (c .next-on2 .ensures)))
+    (c .before .if2 .came)
+
+-- ---- the end
+
+same-length : tie.Need-same-length Inv-loop μ-loop
+same-length c = c .before .before .before .loop .inv .only .size ∙ long (c .before .before .before .before)
+
+returns : tie.Need-returns Inv-loop μ-loop
+returns c =
+    let test = c .before .before in
+    let l = test .before .loop in
+    let b = test .before .before in
+    let e = b .before .before .before .before .before .before .before .before in
+    let a = e .args in
+    let w₀ = b .before .before .before .store2 .last .0 in
+    prefixes-after (a .w .now) w₀ (l .w) (a .u .now) (a .k) (a .g) (a .s) (a .row) (l .len) (b .before .before .before .before .before .identity2 .result)
+    (e .pre .3) (e .pre .4) (b .before .before .before .store2 .ensures)
+    (gather-block w₀ (l .w) (a .u .now) (a .k) (a .g) (a .s) (a .row) (l .len) (l .j) (l .acc) (e .pre .3) (e .pre .4) (l .inv) (test .loop-test .taken)
+    (sym (c .before .block-on .ensures) ∙ c .if1 .taken))
 
 same-length-2 : tie.Need-same-length-2 Inv-loop μ-loop
-same-length-2 c = c .before .loop .inv .only .size ∙ ap length (c .before .before .before .before .store2 .ensures) ∙ length-row _ _ _
+same-length-2 c = c .before .loop .inv .only .size ∙ long (c .before .before)
 
 returns-2 : tie.Need-returns-2 Inv-loop μ-loop
 returns-2 c =
-    let a = c .before .before .before .before .before .before .before .before .before .args in
     let l = c .before .loop in
-    prefixes-after (a .w .now) (c .before .before .before .before .store2 .last .0) (l .w) (a .u .now) (a .k) (a .g) (a .s) (a .row) (l .len) (c .before .before .before .before .before .before .identity2 .result) (c .before .before .before .before .before .before .before .before .before .pre .3) (c .before .before .before .before .before .before .before .before .before .pre .4) (c .before .before .before .before .store2 .ensures)
-    (gather-end (c .before .before .before .before .store2 .last .0) (l .w) (a .u .now) (a .k) (a .g) (a .s) (a .row) (l .len) (l .j) (l .acc) (c .before .before .before .before .before .before .before .before .before .pre .3) (c .before .before .before .before .before .before .before .before .before .pre .4) (l .inv) (c .loop-test .left))
+    let b = c .before .before in
+    let e = b .before .before .before .before .before .before .before .before in
+    let a = e .args in
+    let w₀ = b .before .before .before .store2 .last .0 in
+    prefixes-after (a .w .now) w₀ (l .w) (a .u .now) (a .k) (a .g) (a .s) (a .row) (l .len) (b .before .before .before .before .before .identity2 .result)
+    (e .pre .3) (e .pre .4) (b .before .before .before .store2 .ensures)
+    (gather-end w₀ (l .w) (a .u .now) (a .k) (a .g) (a .s) (a .row) (l .len) (l .j) (l .acc) (e .pre .3) (e .pre .4) (l .inv) (c .loop-test .left))
 
 pub prefixes-spec : {M : Type 1} → statement M
 prefixes-spec =
@@ -94,6 +156,7 @@ prefixes-spec =
     μ-loop
     (λ c κs. search needs)
     store2-requires
+    next-on-requires
     loop-holds
     block-on-requires
     same-length
@@ -105,7 +168,8 @@ prefixes-spec =
     mul-store2
     add-store2
     store2-requires-2
-    add-j
+    (λ c. omega arith)
+    next-on-requires-2
     loop-less
     loop-again
     same-length-2
