@@ -97,10 +97,10 @@ count-light t k es h = go (eqb (t .kind) matchItem)
     go true = add-light (pairOf (t .a) (t .b)) k es h
     go false = lighter k es h
 
-pub tally-light : (T : ℕ → Item) (k n : ℕ) → All (AtMost n) (tallyOf (pairsOf (upFrom T k n)))
+pub edges-light : (T : ℕ → Item) (k n : ℕ) → All (AtMost n) (tallyOf (pairsOf (upFrom T k n)))
 unfolding upFrom pairsOf tallyOf
-tally-light T k zero = tt
-tally-light T k (suc n) =
+edges-light T k zero = tt
+edges-light T k (suc n) =
     subst (All (AtMost (suc n))) (sym (counted-cons (T k) (upFrom T (suc k) n)))
     (subst (λ (m : ℕ). All (AtMost m) (countItemOf (T k) (tallyOf (pairsOf (upFrom T (suc k) n))))) (add-one n)
-    (count-light (T k) n (tallyOf (pairsOf (upFrom T (suc k) n))) (tally-light T (suc k) n)))
+    (count-light (T k) n (tallyOf (pairsOf (upFrom T (suc k) n))) (edges-light T (suc k) n)))

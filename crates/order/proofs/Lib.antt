@@ -10,6 +10,7 @@ pub mod Arranged
 pub mod Triples
 pub mod EdgeWires
 pub mod Counting
+pub mod Chains
 pub mod Sorting
 pub mod Sums
 pub mod EdgeSteps

@@ -41,7 +41,7 @@ only-columns a b x y us vs h g o = only-wider (columns a b) (columns x y) us vs 
 -- ---- three marks
 
 -- another record stays
-put-away : (us : List ℕ) (i c v j d : ℕ) → c < 32 → d < 32 → j ≢ i → markAt (putMark us i c v) j d ≡ markAt us j d
+pub put-away : (us : List ℕ) (i c v j d : ℕ) → c < 32 → d < 32 → j ≢ i → markAt (putMark us i c v) j d ≡ markAt us j d
 put-away us i c v j d hc hd ne = by (eq-or-ne c d)
   where
     by : (c ≡ d) ⊎ (c ≢ d) → markAt (putMark us i c v) j d ≡ markAt us j d
@@ -84,7 +84,7 @@ module _ (a b c : ℕ) (ha : a < 32) (hb : b < 32) (hc : c < 32) (us : List ℕ)
 
 -- ---- edges and keys
 
-edge-of : {l h w m i v : ℕ} → l ≡ m → h ≡ i → w ≡ v → edge l h w ≡ edge m i v
+pub edge-of : {l h w m i v : ℕ} → l ≡ m → h ≡ i → w ≡ v → edge l h w ≡ edge m i v
 edge-of p q r = cc
 
 module _ (us : List ℕ) (i : ℕ) (e : Edge) where

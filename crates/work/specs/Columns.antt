@@ -42,7 +42,11 @@ hiColumn = 9
 abbrev pub atColumn : ℕ
 atColumn = 10
 
--- record e, edge e: its wires, the smaller first, its weight, and whether it has had its turn
+-- record e, edge e: one more than the last edge before it with the same smaller wire, or 0
+abbrev pub nextColumn : ℕ
+nextColumn = 11
+
+-- record e, edge e: its wires, the smaller first, and its weight
 abbrev pub edgeLoColumn : ℕ
 edgeLoColumn = 12
 
@@ -52,8 +56,9 @@ edgeHiColumn = 13
 abbrev pub weightColumn : ℕ
 weightColumn = 14
 
-abbrev pub usedColumn : ℕ
-usedColumn = 15
+-- record w, wire w: one more than the last edge with the smaller wire w, or 0
+abbrev pub headColumn : ℕ
+headColumn = 15
 
 -- record k, mode k: the wire on it
 abbrev pub orderColumn : ℕ

@@ -26,14 +26,18 @@ pub const HI: usize = 9;
 
 pub const AT: usize = 10;
 
-// Of an edge: its wires, its weight, and whether it has had its turn.
+// Of an edge: the edge before it with the same smaller wire.
+pub const NEXT: usize = 11;
+
+// Of an edge: its wires and its weight.
 pub const EDGE_LO: usize = 12;
 
 pub const EDGE_HI: usize = 13;
 
 pub const WEIGHT: usize = 14;
 
-pub const USED: usize = 15;
+// Of a wire: the last edge with this smaller wire.
+pub const HEAD: usize = 15;
 
 // Of a mode its wire; of a wire its mode; of a mode whether a path starts there.
 pub const ORDER: usize = 16;
