@@ -14,16 +14,15 @@ use Rattle.work.specs.Marks.{Only, Records}
 use Rattle.work.specs.Columns.{matchItem}
 use Rattle.work.proofs.Records.{only-same, only-trans}
 use Rattle.order.specs.declared.edges.Edge.{Edge}
-use Rattle.order.specs.Weights.{Pair, pairOf, soonerOf, insertOf, heaviestOf, addOf, tallyOf}
+use Rattle.order.specs.Weights.{Pair, pairOf, addOf, tallyOf}
 use Rattle.order.specs.Pairs.{Item, itemAt, pairsOf, WiresBelow}
-use Rattle.order.specs.Slice.{limit, edgeColumns, edgeAt, putEdge, edgesIn, Light, Inserted, Sorted}
+use Rattle.order.specs.Slice.{limit, edgeAt, edgesIn, Light}
 use Rattle.order.specs.Slice.{tallyColumns, joinsAt, Chained, Unchained, putHeavier, putNew, ItemBelow, Added, countItemOf, Counted, Tallied}
-use Rattle.order.proofs.Triples.{edge-here, edge-away, edge-only, only-columns}
+use Rattle.order.proofs.Triples.{only-columns}
 use Rattle.order.proofs.Counting.{added-hit, added-new, AtMost, edges-light}
 use Rattle.order.proofs.Chains.{grown-here, grown-away, grown-tally, grown-chained, new-here, new-away, new-tally, new-chained}
 use Rattle.order.proofs.Chains.{unchained, found-few, found-joins, found-first, found-none}
-use Rattle.order.proofs.Sums.{up-all, counted-none, counted-more, sorted-none, sorted-more}
-use Rattle.order.proofs.Sorting.{Sinks, sinks-start, sinks-more, sinks-end}
+use Rattle.order.proofs.Sums.{up-all, counted-none, counted-more}
 
 -- ---- a pair counted
 
@@ -93,44 +92,7 @@ tally-grows us vs i g m h b e j l =
     (omega arith) in
     omega arith
 
--- ---- an edge inserted
-
--- how far it has come
-abbrev pub Sinking : List ℕ → List ℕ → Edge → ℕ → ℕ → ℕ → Type 0
-Sinking us vs e i j m = Sinks (edgeAt us) (edgeAt vs) e i j m × Only edgeColumns us vs
-
-pub insert-start : (us : List ℕ) (e : Edge) (i m : ℕ) → i < m → Sinking us us e i (i + 1) m
-insert-start us e i m h = (sinks-start (edgeAt us) (edgeAt us) e i (i + 1) m h refl (λ k. refl), only-same edgeColumns us)
-
-module _ (us vs ws : List ℕ) (e : Edge) (i j m : ℕ) (s : Sinking us vs e i j m) (room : Records us m) where
-  there : Records vs (j - 1 + 1)
-  there = omega (arith, s .1 .size, s .0 .low, s .0 .high)
-
-  pub insert-more : (f : Edge) → j < m → f ≡ edgeAt vs j → soonerOf e f ≡ false → ws ≡ putEdge vs (j - 1) f → Sinking us ws e i (j + 1) m
-  insert-more f l here t put = (
-    sinks-more (edgeAt us) (edgeAt vs) e i j m (edgeAt ws) (s .0) l (ap (soonerOf e) (sym own) ∙ t)
-        (ap (λ (l : List ℕ). edgeAt l (j - 1)) put ∙ edge-here vs (j - 1) f there ∙ own)
-        (λ k ne. ap (λ (l : List ℕ). edgeAt l k) put ∙ edge-away vs (j - 1) f k ne),
-    only-trans edgeColumns us vs ws (s .1) (subst (Only edgeColumns vs) (sym put) (edge-only vs (j - 1) f)),
-  )
-    where
-      own : f ≡ edgeAt us j
-      own = here ∙ s .0 .after j (omega arith)
-
-  pub insert-ends : e ≡ edgeAt us i → insertOf e (upFrom (edgeAt us) j (m - j)) ≡ e ∷ upFrom (edgeAt us) j (m - j) → ws ≡ putEdge vs (j - 1) e
-      → Inserted us ws i m
-  insert-ends here t put = record {
-    list =
-        sinks-end (edgeAt us) (edgeAt vs) e i j m (edgeAt ws) (s .0) t (ap (λ (l : List ℕ). edgeAt l (j - 1)) put ∙ edge-here vs (j - 1) e there) away
-        ∙ ap (λ (e : Edge). insertOf e (upFrom (edgeAt us) (i + 1) (m - (i + 1)))) here;
-    before = λ k l. away k (λ q. omega (arith, q, l, s .0 .low)) ∙ s .0 .before k l;
-    only = only-trans edgeColumns us vs ws (s .1) (subst (Only edgeColumns vs) (sym put) (edge-only vs (j - 1) e));
-  }
-    where
-      away : (k : ℕ) → k ≢ j - 1 → edgeAt ws k ≡ edgeAt vs k
-      away k ne = ap (λ (l : List ℕ). edgeAt l k) put ∙ edge-away vs (j - 1) e k ne
-
--- ---- the loops, from the last item and from the last edge on
+-- ---- the loop, from the last item on
 
 -- the items from i on are counted
 pub record Tallying (us vs : List ℕ) (g n m i : ℕ) : Type 0 where
@@ -192,28 +154,4 @@ module _ (us vs : List ℕ) (g n m i : ℕ) (t : Tallying us vs g n m i) where
     list = t .list ∙ ap (λ (l : List Item). tallyOf (pairsOf l)) (up-all (itemAt us) i g h);
     few = omega (arith, t .few);
     only = t .only;
-  }
-
--- the edges from i on are sorted
-abbrev pub Sorting : List ℕ → List ℕ → ℕ → ℕ → Type 0
-Sorting us vs m i =
-    (i ≤ m) × (upFrom (edgeAt vs) i (m - i) ≡ heaviestOf (upFrom (edgeAt us) i (m - i))) × ((k : ℕ) → k < i → edgeAt vs k ≡ edgeAt us k)
-    × Only edgeColumns us vs
-
-pub sort-start : (us : List ℕ) (m : ℕ) → Sorting us us m m
-sort-start us m = (omega arith, sorted-none (edgeAt us) (edgeAt us) m, λ k h. refl, only-same edgeColumns us)
-
-module _ (us vs : List ℕ) (m i : ℕ) (t : Sorting us vs m i) where
-  pub sort-more : (ws : List ℕ) → 0 < i → Inserted vs ws (i - 1) m → Sorting us ws m (i - 1)
-  sort-more ws h c = (
-    omega (arith, t .0),
-    sorted-more (edgeAt us) (edgeAt vs) (edgeAt ws) i m h (t .0) (t .1) (t .2 (i - 1) (omega arith)) (c .list),
-    λ k l. c .before k l ∙ t .2 k (omega arith),
-    only-trans edgeColumns us vs ws (t .3) (c .only),
-  )
-
-  pub sort-ends : i ≤ 0 → Sorted us vs m
-  sort-ends h = record {
-    list = sym (up-all (edgeAt vs) i m h) ∙ t .1 ∙ ap heaviestOf (up-all (edgeAt us) i m h);
-    only = t .3;
   }

@@ -11,9 +11,12 @@ pub mod Triples
 pub mod EdgeWires
 pub mod Counting
 pub mod Chains
+pub mod Sooner
 pub mod Sorting
 pub mod Sums
+pub mod Merging
 pub mod EdgeSteps
+pub mod SortSteps
 pub mod KeySteps
 pub mod OrderSteps
 pub mod Inverse

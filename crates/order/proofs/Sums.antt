@@ -9,7 +9,7 @@ use Rattle.laws.specs.Lists.{All}
 use Rattle.laws.specs.Views.{upFrom, listOf}
 use Rattle.laws.proofs.Views.{up-head}
 use Rattle.order.specs.declared.edges.Edge.{Edge}
-use Rattle.order.specs.Weights.{weighsOf, tallyOf, insertOf, heaviestOf}
+use Rattle.order.specs.Weights.{weighsOf, tallyOf}
 use Rattle.order.specs.Pairs.{Item, pairsOf}
 use Rattle.order.specs.Slice.{countItemOf}
 use Rattle.order.specs.Arrangement.{absDiffOf, besideOf}
@@ -31,13 +31,20 @@ module _ {A : Type 0} (e : ℕ → A) where
       let n : m - m ≡ 0 = omega arith in
       rw n
 
+  -- none is left
+  pub up-none : (k n : ℕ) → n ≤ 0 → upFrom e k n ≡ []
+  unfolding upFrom
+  up-none k n h =
+      let z : n ≡ 0 = omega arith in
+      rw z
+
   pub up-all : (i m : ℕ) → i ≤ 0 → upFrom e i (m - i) ≡ listOf m e
   up-all i m h =
       let n : i ≡ 0 = omega arith in
       let k : m - 0 ≡ m = omega arith in
       rw (n, k)
 
--- ---- items counted, edges sorted
+-- ---- items counted
 
 pub counted-none : (T : ℕ → Item) (g : ℕ) → [] ≡ tallyOf (pairsOf (upFrom T g (g - g)))
 unfolding tallyOf pairsOf
@@ -48,18 +55,6 @@ pub counted-more : (T : ℕ → Item) (i g : ℕ) (es fs : List Edge) → 0 < i 
 counted-more T i g es fs h l e f =
     f ∙ ap (countItemOf (T (i - 1))) e ∙ sym (ap (λ (l : List Item). tallyOf (pairsOf l)) (up-prev T i g h l)
     ∙ counted-cons (T (i - 1)) (upFrom T i (g - i)))
-
-pub sorted-none : (E F : ℕ → Edge) (m : ℕ) → upFrom F m (m - m) ≡ heaviestOf (upFrom E m (m - m))
-unfolding heaviestOf
-sorted-none E F m = up-end F m ∙ sym (ap heaviestOf (up-end E m))
-
-pub sorted-more : (E F G : ℕ → Edge) (i m : ℕ) → 0 < i → i ≤ m → upFrom F i (m - i) ≡ heaviestOf (upFrom E i (m - i)) → F (i - 1) ≡ E (i - 1)
-    → upFrom G (i - 1) (m - (i - 1)) ≡ insertOf (F (i - 1)) (upFrom F (i - 1 + 1) (m - (i - 1 + 1)))
-    → upFrom G (i - 1) (m - (i - 1)) ≡ heaviestOf (upFrom E (i - 1) (m - (i - 1)))
-unfolding heaviestOf
-sorted-more E F G i m h l e f g =
-    let n : i - 1 + 1 ≡ i = omega arith in
-    g ∙ ap₂ insertOf f (ap (λ (k : ℕ). upFrom F k (m - k)) n ∙ e) ∙ sym (ap heaviestOf (up-prev E i m h l))
 
 -- ---- weights
 
