@@ -15,7 +15,7 @@ use Rattle.laws.proofs.Views.{seek-hit, seek-miss, seek-none, seek-gap, seek-pa
 use Rattle.laws.proofs.Cases.{eq-or-ne}
 use Rattle.work.specs.Marks.{markAt, putMark, Only, Records}
 use Rattle.work.specs.Columns.{headColumn, nextColumn}
-use Rattle.work.proofs.Records.{put-size, put-here, put-column, put-record, only-same, only-trans, only-put}
+use Rattle.work.proofs.Records.{put-here, put-record, only-same, only-trans, only-put}
 use Rattle.order.specs.declared.edges.Edge.{Edge}
 use Rattle.order.specs.Weights.{Pair, edge, joinsOf, heavierOf}
 use Rattle.order.specs.Slice.{columns, tallyColumns, edgeAt, putEdge, onWire, joinsAt, pairOn, Chained, Unchained, putHeavier, putNew}
@@ -179,9 +179,6 @@ module _ (us : List ℕ) (i : ℕ) where
 -- ---- a new edge
 
 module _ (us : List ℕ) (m n : ℕ) (p : Pair) (room : Records us (m + 1)) (wide : Records us n) (low : p .lo < n) where
-  new : Edge
-  new = edge (p .lo) (p .hi) 1
-
   one : List ℕ
   one = putEdge us m (edge (p .lo) (p .hi) 1)
 

@@ -1,8 +1,8 @@
--- The steps of the loops over edges, said of the lent work: what a put edge makes of the list of edges. By the laws of counting and of sorting.
+-- The steps of the loops over edges, said of the lent work: what a put edge makes of the list of edges. By the laws of counting and of chains.
 -- Assumes nothing.
 use mathlib.Core.Path.{_≡_, refl, sym, ap, subst, _∙_}
 use mathlib.Core.Bool.{false}
-use mathlib.Core.List.{List, _∷_}
+use mathlib.Core.List.{List}
 use mathlib.Core.Logic.{_≢_}
 use Prim.Native.Nat.{ℕ, _+_, _-_, _≤_, _<_}
 use native.Mathlib.Omega.{arith}
@@ -13,7 +13,6 @@ use Rattle.laws.proofs.Views.{up-same}
 use Rattle.work.specs.Marks.{Only, Records}
 use Rattle.work.specs.Columns.{matchItem}
 use Rattle.work.proofs.Records.{only-same, only-trans}
-use Rattle.order.specs.declared.edges.Edge.{Edge}
 use Rattle.order.specs.Weights.{Pair, pairOf, addOf, tallyOf}
 use Rattle.order.specs.Pairs.{Item, itemAt, pairsOf, WiresBelow}
 use Rattle.order.specs.Slice.{limit, edgeAt, edgesIn, Light}
