@@ -25,13 +25,20 @@ pub fn mode_at(modes: &[u16], q: usize) -> usize
     wide(modes[q])
 }
 
-// Each of the first n entries is its own number, as in the table of a fresh state. All are looked at,
-// so that the compiler compares several at once.
+// Each of the first n entries is its own number, as in the table of a fresh state. The last is looked at
+// first, which settles most other tables; then all are, so that the compiler compares several at once.
 fn is_identity(n: usize, modes: &[u16]) -> bool
     requires { ⌜ n ≤ maxQubits ⌝ }
     requires { ⌜ n ≤ length (now modes) ⌝ }
     ensures { λ r. ⌜ r ≡ allBelow (λ q. eqb (modeAt (now (modes .entry)) q) q) n ⌝ }
 {
+    if n == 0 {
+        return true;
+    }
+    let last = n - 1;
+    if mode_at(modes, last) != last {
+        return false;
+    }
     let mut same = true;
     let mut q = 0;
     while q < n {
