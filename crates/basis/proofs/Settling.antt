@@ -2,17 +2,16 @@
 -- twice, and any other entry is a zero, of either sign. So postponed signs that go by modes may be settled or read with the entry. Assumes nothing.
 use mathlib.Core.Path.{_≡_, refl, sym, ap, _∙_, subst}
 use mathlib.Core.Logic.{_⊎_, inl, inr, _≢_, ⊎-map}
-use mathlib.Core.Bool.{Bool, true, false, not, cond, _&&_}
+use mathlib.Core.Bool.{Bool, true, false, cond, _&&_}
 use Prim.Native.Nat.{ℕ, _+_, _*_, _/_, _%_, _≤_, _<_}
 use native.Mathlib.Nat.{mul-one}
 use native.Mathlib.Omega.{arith}
-use lib.Dec.{T, eqb, eqb→eq, lit≤}
+use lib.Dec.{lit≤}
 use lib.IntN.{ℤ, pos, one, natAbs, negℤ-negℤ, *ℤ-one}
 use lib.Ieee.{Float, binary64, mul, neg, lt}
-use lib.Ieee.Fits.{and-l, and-r}
 use borrow.Author.Tests.{le-leb, lt-leb}
 use Rattle.laws.specs.Zeros.{+0, +1, sg}
-use Rattle.laws.specs.Dyadic.{Dy, withSign, cap}
+use Rattle.laws.specs.Dyadic.{Dy, cap}
 use Rattle.laws.specs.Matrix.{Mat}
 use Rattle.laws.specs.Maps.{Local, inside, rows, cols}
 use Rattle.laws.proofs.Cases.{lt-or-le, eq-or-ne}

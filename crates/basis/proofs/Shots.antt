@@ -1,7 +1,7 @@
 -- A sample of a basis state: every shot has the register's bits, whatever the draws, and so the words of the output are the register's. The modes are
 -- measured one after the other, each with its bit for outcome; the table carries them over to the qubits. Assumes nothing.
 use mathlib.Core.Path.{_≡_, refl, sym, ap, _∙_, subst}
-use mathlib.Core.Logic.{_⊎_, inl, inr, _≢_}
+use mathlib.Core.Logic.{_⊎_, inl, inr}
 use mathlib.Core.Bool.{Bool, true, false, not, cond, _&&_}
 use mathlib.Core.List.{List}
 use Prim.Native.Nat.{ℕ, zero, suc, _+_, _*_, _/_, _%_, _≤_, _<_}
@@ -13,7 +13,7 @@ use lib.Ieee.{Float, nan}
 use borrow.Author.Tests.{lt-ltb, le-ltb, ltb-false, not-false}
 use Rattle.laws.specs.Zeros.{+0}
 use Rattle.laws.specs.Matrix.{Mat}
-use Rattle.laws.proofs.Cases.{lt-or-le, eq-or-ne}
+use Rattle.laws.proofs.Cases.{lt-or-le}
 use Rattle.laws.proofs.Views.{up-same}
 use Rattle.monomial.specs.Basis.{IsBasis}
 use Rattle.pfaffian.specs.Shot.{drawFrom, modeOf, qubitBit, wordOf, shot, next, reached, outcome}

@@ -1,11 +1,10 @@
 -- Question 10 and the operations: the report's number of operations is that of the program, which is what is written; and a slice made zero. Assumes nothing.
-use mathlib.Core.Path.{_≡_, refl, sym, ap, ap₂, _∙_}
+use mathlib.Core.Path.{_≡_, refl, sym, ap, _∙_}
 use mathlib.Core.Bool.{Bool, true, false, cond}
-use mathlib.Core.List.{List, [], _∷_}
+use mathlib.Core.List.{List, []}
 use Prim.Native.Nat.{ℕ, _+_, _*_, _≤_, _<_}
 use native.Mathlib.Omega.{arith}
-use lib.Dec.{eqb, ltb}
-use lib.ListN.{length, getD, List·getD-eq-default}
+use lib.ListN.{length, List·getD-eq-default}
 use lib.Ieee.{Float}
 use borrow.Author.Tests.{lt-ltb, le-ltb}
 use Rattle.laws.specs.Slices.{filled}
@@ -15,7 +14,6 @@ use Rattle.tape.specs.declared.gates.Gate.{Gate}
 use Rattle.detect.specs.declared.report.Report.{Report}
 use Rattle.detect.specs.Operation.{Operation, allPlaces, written}
 use Rattle.detect.specs.Emit.{operationsOf}
-use Rattle.detect.specs.Counts.{countsOf}
 use Rattle.detect.specs.Records.{itemsIn, modesIn}
 use Rattle.detect.specs.Report.{freeOf, reportOf}
 use Rattle.detect.specs.Compile.{itemsOf, modeOf, tallyOf, reportedOf, programOf, refusal, done, answerOf, writtenOf}

@@ -10,7 +10,7 @@ use native.Mathlib.Omega.{arith}
 use lib.Dec.{eqb, ltb}
 use lib.ListN.{length, getD}
 use lib.Ieee.{Float}
-use borrow.Author.Tests.{eq-eqb, ne-eqb}
+use borrow.Author.Tests.{ne-eqb}
 use Rattle.laws.specs.Views.{upFrom, listOf, downTo}
 use Rattle.laws.proofs.Cases.{eq-or-ne}
 use Rattle.laws.proofs.Views.{up-join, getD-listOf}
@@ -22,13 +22,11 @@ use Rattle.tape.specs.Good.{GoodGate}
 use Rattle.tape.specs.Parse.{gatesOf}
 use Rattle.tape.specs.declared.header.Header.{Header}
 use Rattle.tape.specs.declared.gates.Gate.{Gate}
-use Rattle.fuse.specs.Layout.{Space, eventAt, matrix2Of, matrix4Of}
-use Rattle.fuse.specs.Relabel.{labelled, unlabelled}
+use Rattle.fuse.specs.Layout.{Space, eventAt}
 use Rattle.fuse.specs.Slotted.{labelledAt, Relabelled}
 use Rattle.order.specs.declared.choice.Ordering.{Ordering}
-use Rattle.order.specs.declared.edges.Edge.{Edge}
 use Rattle.order.specs.Weights.{Pair, pairOf, weighsOf, edgesOf}
-use Rattle.order.specs.Cover.{Cover, wires, coverOf}
+use Rattle.order.specs.Cover.{wires, coverOf}
 use Rattle.order.specs.Arrangement.{arranged, zeros, marked, marks, find}
 use Rattle.order.specs.Choice.{coveredOf, identityOf, pathOrderOf, arrangeOf, chooseOrderOf}
 use Rattle.order.specs.Pairs as Pairs
@@ -36,15 +34,14 @@ use Rattle.order.specs.Pairs.{pairsOf, pairsIn, WiresBelow}
 use Rattle.order.specs.Slice.{columns, Arranges}
 use Rattle.order.proofs.Permutation.{order-permutes}
 use Rattle.resolve.specs.declared.settle.Tally.{Tally}
-use Rattle.resolve.specs.Items as Items
 use Rattle.resolve.specs.Items.{Item, newestFirst, ItemsBelow}
-use Rattle.resolve.specs.Slots.{itemAt, residualAt}
-use Rattle.resolve.specs.Whole.{Fused, fuseOf, fusedAt, Whole}
+use Rattle.resolve.specs.Slots.{itemAt}
+use Rattle.resolve.specs.Whole.{fuseOf, fusedAt, Whole}
 use Rattle.detect.specs.Counts.{countsOf}
 use Rattle.detect.specs.Report.{table}
 use Rattle.detect.specs.Records.{isItemOf, recordItem, itemsIn, modesIn, qubitMode, ColumnBelow, Held}
 use Rattle.detect.specs.Compile.{relabelsOf, reordersOf, matchPairs, labelsOf, itemsOf, orderOf, modeOf, modeOfQubit, tallyOf}
-use Rattle.detect.proofs.Items.{items-more, items-same, items-none, below-at, wires-below}
+use Rattle.detect.proofs.Items.{items-more, items-same, below-at, wires-below}
 use Rattle.detect.proofs.Emitting.{counts-same}
 use Rattle.detect.proofs.Entries.{table-same}
 use Rattle.detect.proofs.Wires.{slots-permute, content-permutes, wires-items}

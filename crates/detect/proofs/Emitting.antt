@@ -3,7 +3,7 @@ use mathlib.Core.Path.{_≡_, refl, sym, ap, ap₂, _∙_}
 use mathlib.Core.Logic.{_⊎_, inl, inr}
 use mathlib.Core.Bool.{Bool, true, false, cond}
 use mathlib.Core.List.{List, [], _∷_, _++_}
-use Prim.Native.Nat.{ℕ, zero, suc, _+_, _*_, _≤_, _<_}
+use Prim.Native.Nat.{ℕ, zero, suc, _+_, _≤_, _<_}
 use native.Mathlib.Numerals.{add-one}
 use native.Mathlib.Omega.{arith}
 use lib.Dec.{eqb}
@@ -30,7 +30,7 @@ use Rattle.resolve.specs.Items.{Item, ItemBelow, ItemsBelow}
 use Rattle.detect.specs.Operation.{Operation, one, two, interaction, onePlaces, placesOf, allPlaces, Put}
 use Rattle.detect.specs.Emit.{orientedOf, lowerOf, rotated, rotationsOf, twoOperations, itemOperations, operationsOf}
 use Rattle.detect.specs.Counts.{gaussian, interacting, bad, apart, oneShare, adjacentShare, matchShare, turned, turnsIn, twoShare, plusOf, shareOf, countedOnto, countsOf}
-use Rattle.detect.specs.Records.{isItemOf, recordItem, itemsIn, modesIn}
+use Rattle.detect.specs.Records.{isItemOf, recordItem, itemsIn}
 use Rattle.detect.proofs.Items.{items-more, items-same, items-none, record-two}
 use Rattle.detect.proofs.Placing.{all-append, one-long, put-none, put-one, put-length, put-both}
 

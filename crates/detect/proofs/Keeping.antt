@@ -2,30 +2,26 @@
 -- Assumes nothing.
 use mathlib.Core.Path.{_≡_, refl, sym, ap, _∙_, subst}
 use mathlib.Core.Logic.{_⊎_, inl, inr, _≢_}
-use mathlib.Core.Bool.{Bool, true, false, cond, true≢false}
-use mathlib.Core.List.{List, [], _∷_, _++_, append-assoc}
+use mathlib.Core.Bool.{Bool, true, false, true≢false}
+use mathlib.Core.List.{List, _++_, append-assoc}
 use Prim.Native.Nat.{ℕ, _+_, _*_, _≤_, _<_}
 use native.Mathlib.Omega.{arith}
-use lib.Dec.{eqb}
 use lib.ListN.{length, getD, take, drop, length-drop}
-use lib.Seq.{paste, length-paste, length-take-le, take-all, take-at, drop-at, drop-drop, ext-getD}
+use lib.Seq.{paste, length-take-le, take-all, take-at, drop-at, drop-drop, ext-getD}
 use lib.Ieee.{Float, nan}
-use borrow.Author.Tests.{eq-eqb, ne-eqb}
+use borrow.Author.Tests.{ne-eqb}
 use borrow.Rule.Slice.PartMut.{putMid}
 use Rattle.laws.proofs.Cases.{lt-or-le, eq-or-ne}
 use Rattle.laws.proofs.Slices.{part-at, length-put, put-before, put-after}
 use Rattle.gate.proofs.Stored.{mat2-alike, mat4-alike}
-use Rattle.gate.specs.declared.matrix.Mat4.{Mat4}
 use Rattle.work.specs.Marks.{markAt}
 use Rattle.work.specs.Columns.{kindColumn, aColumn, bColumn}
 use Rattle.order.specs.Arrangement.{besideOf}
 use Rattle.fuse.specs.Layout.{matrix4Of}
-use Rattle.majorana.specs.Majorana.{majoranaMap2Of}
 use Rattle.resolve.specs.Slots.{itemAt}
 use Rattle.resolve.proofs.Records.{newest-same, item-alike}
 use Rattle.detect.specs.declared.count.Counts.{Counts}
-use Rattle.detect.specs.Counts.{apart, adjacentShare, matchShare, twoShare, plusOf, shareOf}
-use Rattle.detect.specs.Emit.{orientedOf}
+use Rattle.detect.specs.Counts.{matchShare, twoShare, plusOf, shareOf}
 use Rattle.detect.specs.Records.{isItemOf, recordItem, itemsIn, modesIn, Held}
 use Rattle.detect.specs.Kept.{matchPlaces, keptPlace, matchKept, twoKept, recordKept, KeptAt, Kept, Counted}
 

@@ -1,13 +1,13 @@
 -- Operations in a slice: each has 18 places, and what is written one after the other is written at once. Assumes nothing.
 use mathlib.Core.Path.{_≡_, refl, sym, ap, ap₂, _∙_}
 use mathlib.Core.List.{List, [], _∷_, _++_, append-assoc, append-nil}
-use Prim.Native.Nat.{ℕ, _+_, _*_, _≤_, _<_}
+use Prim.Native.Nat.{ℕ, _+_, _*_, _≤_}
 use native.Mathlib.Nat.{add-zero, add-assoc}
 use native.Mathlib.Omega.{arith}
 use lib.ListN.{length, take, drop, length-append, length-drop}
 use lib.Seq.{length-take-le, take-all, take-at, drop-append-add, drop-drop, paste, paste-zero}
 use lib.Ieee.{Float}
-use Rattle.detect.specs.Operation.{Operation, one, two, interaction, placesOf, allPlaces, placed, written, Put}
+use Rattle.detect.specs.Operation.{Operation, one, two, interaction, placesOf, allPlaces, placed, Put}
 
 -- ---- 18 places
 

@@ -1,10 +1,8 @@
 -- What holds of every report: "blocks = Gaussian + bad + interactions", the number of operations, "no blocks: fraction 1.0", and the mode table's first n
 -- entries are a permutation. Assumes nothing.
-use mathlib.Core.Path.{_≡_, refl, sym, ap, _∙_}
-use mathlib.Core.Bool.{Bool, true, false, cond}
+use mathlib.Core.Path.{_≡_, sym, _∙_}
 use mathlib.Core.List.{List, List·Memᴰ}
 use Prim.Native.Nat.{ℕ, _+_, _≤_, _<_}
-use lib.Dec.{eqb}
 use lib.ListN.{length, getD}
 use borrow.Author.Tests.{eq-eqb}
 use Rattle.gate.specs.Complex.{f1}
@@ -12,7 +10,7 @@ use Rattle.tape.specs.Bounds.{maxQubits}
 use Rattle.tape.specs.Good.{GoodGate}
 use Rattle.tape.specs.declared.header.Header.{Header}
 use Rattle.tape.specs.declared.gates.Gate.{Gate}
-use Rattle.detect.specs.Report.{table, fractionOf, reportOf}
+use Rattle.detect.specs.Report.{fractionOf, reportOf}
 use Rattle.detect.specs.Compile.{itemsOf, modeOf, modeOfQubit, tallyOf, reportedOf, programOf}
 use Rattle.detect.proofs.Sums.{Adds, counts-add}
 use Rattle.detect.proofs.Entries.{table-at}

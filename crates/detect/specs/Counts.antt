@@ -7,7 +7,6 @@ use lib.Dec.{eqb}
 use lib.Ieee.{Float, le}
 use Rattle.num.specs.Order.{maxOf}
 use Rattle.gate.specs.Complex.{f0, f1}
-use Rattle.gate.specs.declared.matrix.Mat2.{Mat2}
 use Rattle.gate.specs.declared.matrix.Mat4.{Mat4}
 use Rattle.work.specs.Columns.{matchItem, diagonalItem, interactionItem}
 use Rattle.majorana.specs.Majorana.{majoranaMap1Of, majoranaMap2Of}

@@ -1,5 +1,4 @@
 -- The items in the lent work as the passes over them read them. Assumes nothing.
-use mathlib.Core.Path.{_≡_}
 use mathlib.Core.Bool.{Bool, cond, _&&_}
 use mathlib.Core.List.{List}
 use Prim.Native.Nat.{ℕ, _+_, _*_, _<_, _≤_}
@@ -7,7 +6,7 @@ use lib.Dec.{eqb, leb}
 use lib.ListN.{length}
 use lib.Ieee.{Float}
 use Rattle.work.specs.Marks.{markAt, column, Records}
-use Rattle.work.specs.Columns.{kindColumn, aColumn, bColumn, labColumn, contentColumn, posColumn, oneItem, matchItem, neitherItem, opaqueItem}
+use Rattle.work.specs.Columns.{kindColumn, aColumn, bColumn, labColumn, contentColumn, posColumn, oneItem, opaqueItem}
 use Rattle.tape.specs.Bounds.{maxQubits}
 use Rattle.fuse.specs.Layout.{matrix2Of, matrix4Of}
 use Rattle.detect.specs.declared.count.Counts.{Counts}

@@ -4,7 +4,7 @@ use mathlib.Core.List.{List}
 use Prim.Native.Nat.{ℕ}
 use lib.Dec.{eqb, ltb}
 use lib.Ieee.{Float, binary64, div}
-use Rattle.laws.specs.Views.{upFrom, listOf}
+use Rattle.laws.specs.Views.{listOf}
 use Rattle.gate.specs.Complex.{f0, f1}
 use Rattle.tape.specs.Bounds.{maxQubits}
 use Rattle.order.specs.declared.choice.Ordering.{Ordering}

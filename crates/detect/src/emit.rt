@@ -25,8 +25,6 @@ use majorana::phase_a;
 use majorana::phase_b;
 use majorana::rotation_of;
 use majorana::unit;
-use real::Map2;
-use real::Map4;
 use work::A;
 use work::B;
 use work::DIAGONAL_ITEM;

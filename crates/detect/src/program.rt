@@ -1,5 +1,5 @@
 // The report of an accepted tape, from its gates to the counts; the lent work holds the items and the order afterwards.
-ghost use Prim.Native.Nat.{_+_, _*_, _<_, _≤_};
+ghost use Prim.Native.Nat.{_+_, _≤_};
 ghost use Rattle.tape.specs.Bounds.{maxQubits};
 ghost use Rattle.tape.specs.Parse.{gatesOf};
 ghost use Rattle.fuse.specs.Layout.{Space};

@@ -1,15 +1,14 @@
 -- Worked values of the definitions, by computation. Lists of events are the newest first. Assumes nothing.
 use mathlib.Core.Path.{_≡_, refl}
-use mathlib.Core.Bool.{Bool, true, false}
+use mathlib.Core.Bool.{true, false}
 use mathlib.Core.List.{List, [], _∷_, map}
 use Prim.Native.Nat.{ℕ}
-use lib.Ieee.{binary64, add, sub, mul, eq, ofBits}
+use lib.Ieee.{add, sub, mul, eq, ofBits}
 use Rattle.laws.specs.Views.{until, from, upFrom}
 use Rattle.gate.specs.Complex.{isZeroOf}
-use Rattle.gate.specs.Matrix.{mul2Of, dot2Of, mul4Of, kronOf, kronRowOf, rowMulOf, axpyOf, mat4SwapQubitsOf}
+use Rattle.gate.specs.Matrix.{mul2Of, dot2Of, mul4Of, kronOf, mat4SwapQubitsOf}
 use Rattle.gate.specs.Table.{gateX, gateZ, gateS, gateCnot, gateSwap, gateISwap}
-use Rattle.tape.specs.declared.gates.Gate.{Gate}
-use Rattle.tape.specs.declared.gates.Gate.the-variants.{One, Two, Three}
+use Rattle.tape.specs.declared.gates.Gate.the-variants.{One, Two}
 use Rattle.fuse.specs.Events.{Event, gone, one, two, three, product}
 use Rattle.fuse.specs.Relabel.{labelled, unlabelled}
 use Rattle.fuse.specs.Fuse.{fused}

@@ -7,12 +7,12 @@ use Prim.Native.Nat.{ℕ, zero, suc, _+_, _*_, _-_, _≤_, _<_}
 use native.Mathlib.Nat.{add-zero}
 use native.Mathlib.Omega.{arith}
 use lib.Dec.{eqb}
-use lib.ListN.{length, getD, drop}
+use lib.ListN.{length, drop}
 use lib.Seq.{drop-length}
 use lib.Ieee.{Float}
 use borrow.Author.Count.{below-more}
 use Rattle.laws.specs.Slices.{traded}
-use Rattle.laws.specs.Views.{listOf, downTo}
+use Rattle.laws.specs.Views.{downTo}
 use Rattle.laws.proofs.Cases.{eq-or-ne}
 use Rattle.laws.proofs.Views.{down-more, down-same, getD-listOf}
 use Rattle.gate.specs.declared.matrix.Mat2.{Mat2}
@@ -29,11 +29,11 @@ use Rattle.tape.specs.Cursor.{Cursor, Stands}
 use Rattle.tape.specs.declared.gates.Gate.{Gate}
 use Rattle.tape.specs.declared.gates.Gate.the-variants.{One, Two, Three}
 use Rattle.fuse.specs.Events.{Event, gone, one, two, three}
-use Rattle.fuse.specs.Relabel.{Labelled, swapCode, put, swapped, slotOf, label, labelled, unlabelled}
+use Rattle.fuse.specs.Relabel.{swapCode, put, swapped, slotOf, labelled, unlabelled}
 use Rattle.fuse.specs.Layout.{Within, eventAt, putMatrix2Of, putMatrix4Of}
 use Rattle.fuse.specs.Slotted.{labelledAt, Labels, eventMarks, swappedMarks, Labelling, Identity, Relabelled}
 use Rattle.fuse.proofs.Listed.{listed-same, listed-traded}
-use Rattle.fuse.proofs.Places.{one-at, two-at, three-at, event-alike, put2-other, put2-same, put4-other, put4-same}
+use Rattle.fuse.proofs.Places.{three-at, event-alike, put2-other, put2-same, put4-other, put4-same}
 
 -- ---- the marks of an event
 

@@ -1,7 +1,6 @@
 -- A table of n places as a list: alike tables, one place changed, two places exchanged. By the elements. Assumes nothing.
 use mathlib.Core.Path.{_≡_, sym, ap, _∙_}
 use mathlib.Core.Logic.{_⊎_, inl, inr, _≢_}
-use mathlib.Core.List.{List}
 use Prim.Native.Nat.{ℕ, _<_}
 use native.Mathlib.Omega.{arith}
 use lib.ListN.{getD, set, length-set}

@@ -15,10 +15,10 @@ use Rattle.laws.specs.Views.{between}
 use Rattle.laws.proofs.Views.{between-none, between-more}
 use Rattle.laws.proofs.Cases.{lt-or-le}
 use Rattle.gate.specs.Matrix.{id2, mul2Of}
-use Rattle.gate.specs.Lent.{mat2At, mat4At, flat}
+use Rattle.gate.specs.Lent.{flat}
 use Rattle.gate.specs.declared.matrix.Mat2.{Mat2}
 use Rattle.gate.specs.declared.matrix.Mat4.{Mat4}
-use Rattle.gate.proofs.Stored.{length-row, place-stays, mat2-alike, mat4-alike, mat2-back, length4, place-stays4, mat4-back}
+use Rattle.gate.proofs.Stored.{place-stays, mat2-alike, mat4-alike, mat2-back, place-stays4, mat4-back}
 use Rattle.work.specs.Marks.{markAt, putMark, Only}
 use Rattle.work.specs.Columns.{kindColumn, aColumn, bColumn, cColumn, goneKind, oneKind, twoKind, threeKind}
 use Rattle.work.proofs.Records.{put-here, put-column, put-record, only-same, only-trans, only-put}

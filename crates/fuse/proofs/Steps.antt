@@ -10,7 +10,7 @@ use lib.Dec.{eqb}
 use lib.ListN.{length}
 use lib.Ieee.{Float}
 use borrow.Author.Tests.{ne-eqb}
-use Rattle.laws.specs.Views.{downTo, between, until, from, seek, gap, Step, Pass}
+use Rattle.laws.specs.Views.{downTo, between, seek, gap}
 use Rattle.laws.proofs.Views.{down-more, down-split, down-same, between-map, between-same, seek-gap, from-is, until-is, pass-none, pass-more}
 use Rattle.gate.specs.Matrix.{mul2Of, mul4Of, kronOf, mat4SwapQubitsOf}
 use Rattle.gate.specs.Lent.{flat}
@@ -18,7 +18,7 @@ use Rattle.gate.specs.declared.matrix.Mat2.{Mat2}
 use Rattle.gate.specs.declared.matrix.Mat4.{Mat4}
 use Rattle.gate.proofs.Stored.{length-row, length4}
 use Rattle.work.specs.Marks.{markAt, putMark}
-use Rattle.work.specs.Columns.{kindColumn, aColumn, bColumn, cColumn, goneKind, oneKind, twoKind}
+use Rattle.work.specs.Columns.{kindColumn, aColumn, bColumn, goneKind, oneKind, twoKind}
 use Rattle.work.proofs.Records.{only-same, only-trans}
 use Rattle.fuse.specs.Events.{Event, gone, one, two, three, meets, touches, product, clear}
 use Rattle.fuse.specs.Fuse.{grown, joined, place, fuseStep, fused}

@@ -3,7 +3,7 @@
 -- - `last[w]` is the newest block on the slot w, and `open_blk[w]` is the same block, unless that block is opaque;
 -- - `tail[w]` is the one-qubit gates on w after the newest block on w; a segment is the one-qubit gates on a slot between two blocks on it;
 -- - a block's `open` segments are those before it on its slots, its `close` segments those after it. Assumes nothing.
-use mathlib.Core.Bool.{Bool, true, false, cond, _||_}
+use mathlib.Core.Bool.{Bool, false, cond, _||_}
 use mathlib.Core.List.{List, [], _∷_}
 use Prim.Native.Nat.{ℕ}
 use lib.Dec.{eqb}

@@ -1,7 +1,7 @@
 // The gates of a tape as events on slots.
 ghost use mathlib.Core.Path.{_≡_};
 ghost use mathlib.Core.Bool.{Bool};
-ghost use Prim.Native.Nat.{ℕ, _+_, _<_, _≤_};
+ghost use Prim.Native.Nat.{ℕ, _+_, _<_};
 ghost use Rattle.tape.specs.Good.{GoodGate};
 ghost use Rattle.tape.specs.declared.gates.Gate.the-variants.{One, Two, Three};
 ghost use Rattle.work.specs.Marks.{Records};

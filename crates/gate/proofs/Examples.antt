@@ -1,13 +1,13 @@
 -- Worked values of the definitions, by computation: codes, products of named gates, and the skip of an entry that equals zero.
 -- Assumes nothing.
 use mathlib.Core.Path.{_≡_, refl}
-use mathlib.Core.List.{List, [], _∷_}
-use mathlib.Core.Bool.{Bool, true, false}
+use mathlib.Core.List.{[], _∷_}
+use mathlib.Core.Bool.{true, false}
 use lib.IntN.{pos}
-use lib.Ieee.{Float, nan, inf, fin, binary64, add, sub, mul, neg, eq, ofBits}
-use Rattle.gate.specs.Complex.{cx, f0, f1, c0, c1, isZeroOf, _*ℂ_}
-use Rattle.gate.specs.Matrix.{mat2, row4, mat4, id2, dot2Of, mul2Of, dag2Of, kronRowOf, kronOf, axpyOf, rowMulOf, mul4Of, conjColumnOf, dag4Of, mat4SwapQubitsOf, timeStepOf, timeProductFrom, timeProductOf}
-use Rattle.gate.specs.Table.{f-1, c-1, ci, c-i, gateX, gateY, gateZ, gateS, gateSdg, gateSx, gateCnot, gateCz, gateSwap, gateISwap, gateISwapdg, matrix1qOf, matrix2qOf}
+use lib.Ieee.{Float, nan, inf, fin, add, sub, mul, eq, ofBits}
+use Rattle.gate.specs.Complex.{cx, f0, c0, c1, isZeroOf, _*ℂ_}
+use Rattle.gate.specs.Matrix.{mat2, row4, mat4, id2, dot2Of, mul2Of, kronRowOf, kronOf, axpyOf, rowMulOf, mul4Of, mat4SwapQubitsOf, timeStepOf, timeProductFrom, timeProductOf}
+use Rattle.gate.specs.Table.{ci, gateX, gateY, gateZ, gateS, gateCnot, gateCz, gateSwap, gateISwap, matrix1qOf, matrix2qOf}
 
 -- ---- codes
 

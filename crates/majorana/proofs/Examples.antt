@@ -1,7 +1,7 @@
 -- Worked values of the definitions, by computation: what some named gates are, and units at the edges. Assumes nothing.
 use mathlib.Core.Path.{_≡_, refl}
 use mathlib.Core.Bool.{true, false}
-use lib.Ieee.{Float, inf, nan, binary64, add, sub, mul, div, neg, eq, lt, le, ofBits, isNan}
+use lib.Ieee.{inf, nan, add, sub, mul, div, neg, eq, lt, le, ofBits, isNan}
 use Rattle.real.specs.Maps.{real2, map2}
 use Rattle.num.specs.Order.{absOf, maxOf, minOf}
 use Rattle.num.specs.Root.{sqrtOf}

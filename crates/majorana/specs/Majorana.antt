@@ -9,7 +9,7 @@ use Rattle.real.specs.declared.maps.Real4.{Real4}
 use Rattle.num.specs.Order.{maxOf}
 use Rattle.num.specs.Root.{sqrtOf}
 use Rattle.gate.specs.Complex.{_+ℂ_, _-ℂ_, _*ℂ_, scaleOf, normSqrOf, f0, c0}
-use Rattle.gate.specs.Matrix.{mat2, row4, mat4, id2, mul2Of, dag2Of, kronOf, mul4Of, dag4Of}
+use Rattle.gate.specs.Matrix.{row4, mat4, id2, mul2Of, dag2Of, kronOf, mul4Of, dag4Of}
 use Rattle.gate.specs.Table.{gateX, gateY, gateZ}
 use Rattle.gate.specs.declared.complex.Complex.{Complex}
 use Rattle.gate.specs.declared.matrix.Row2.{Row2}

@@ -1,7 +1,7 @@
 // What a two-qubit block is.
 ghost use mathlib.Core.Path.{_≡_};
 ghost use mathlib.Core.Bool.{_||_};
-ghost use Rattle.majorana.specs.Classify.{diagonalOf, withoutPhaseOf, residual2Of, plainOf, fallbackOf, swappedOf, classify2Of, rankOf, residualOf};
+ghost use Rattle.majorana.specs.Classify.{diagonalOf, withoutPhaseOf, residual2Of, plainOf, swappedOf, classify2Of, rankOf, residualOf};
 use crate::diagonal::interaction;
 use crate::diagonal::offdiag4;
 use crate::diagonal::phase_none;

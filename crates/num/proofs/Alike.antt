@@ -1,6 +1,6 @@
 -- `abs`, `max`, `min` and `clamp` under the two views of a float that forget the sign of a zero: equality up to that sign (`nz`), and the
 -- whole number over a power of two that a small float is (`Dy`). By the laws of the comparisons that they make. Assumes nothing.
-use mathlib.Core.Path.{_≡_, refl, sym, ap, _∙_}
+use mathlib.Core.Path.{_≡_, refl, ap, _∙_}
 use mathlib.Core.Bool.{Bool, true, false, cond}
 use Prim.Native.Nat.{ℕ, zero, suc}
 use lib.IntN.{ℤ, pos, natAbs}

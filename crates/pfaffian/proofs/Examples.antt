@@ -2,12 +2,12 @@
 use mathlib.Core.Path.{_≡_, refl}
 use mathlib.Core.Bool.{true, false}
 use mathlib.Core.List.{List, [], _∷_}
-use Prim.Native.Nat.{ℕ, zero, suc, _+_, _-_, _*_, _%_}
+use Prim.Native.Nat.{ℕ, _+_, _-_, _*_, _%_}
 use native.Mathlib.Omega.{arith}
 use lib.Count.{trailingZeros}
 use lib.IntN.{pos, negsuc}
 use lib.ListN.{getD}
-use lib.Ieee.{Float, nan, fin, ofBits, ofFields, add, sub, mul, div, neg, sum, round, units, odd, size, climb, span, lt, eq, le}
+use lib.Ieee.{Float, nan, fin, ofBits, add, sub, mul, div, neg, sum, round, units, odd, size, climb, span, lt, eq, le}
 use borrow.Author.Tests.{eq-eqb}
 use Rattle.laws.specs.Zeros.{+0, +1}
 use Rattle.laws.specs.Matrix.{Mat}

@@ -9,7 +9,6 @@ use lib.Dec.{eqb}
 use lib.ListN.{length}
 use lib.Ieee.{Float, binary64, mul, neg, eq, ofBits}
 use borrow.Author.Tests.{eqb-true}
-use Rattle.laws.specs.Zeros.{+0}
 use Rattle.laws.specs.Tables.{exchanged}
 use Rattle.laws.specs.Matrix.{Mat, at, Is}
 use Rattle.laws.proofs.Zeros.{zero-bits}

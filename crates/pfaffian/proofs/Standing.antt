@@ -3,14 +3,13 @@
 -- that stands for the plain next matrix. Assumes nothing.
 use mathlib.Core.Path.{_≡_, refl, sym, ap, _∙_}
 use mathlib.Core.Logic.{_≢_}
-use mathlib.Core.Bool.{Bool, true, false, cond}
+use mathlib.Core.Bool.{Bool, true, false}
 use mathlib.Core.List.{List}
 use Prim.Native.Nat.{ℕ, suc, _+_, _*_, _≤_, _<_}
 use native.Mathlib.Omega.{arith}
 use lib.ListN.{length}
 use lib.Ieee.{Float, binary64, add, sub, mul, div, neg, le, ofBits}
 use borrow.Author.Tests.{eq-eqb, ne-eqb, le-leb, lt-ltb, le-ltb}
-use Rattle.laws.specs.Zeros.{+1}
 use Rattle.laws.specs.Matrix.{Mat, at, Is}
 use Rattle.laws.specs.Steps.{masked, inRow, colsFrom, rightFrom, byPair}
 use Rattle.laws.proofs.Zeros.{one-bits}
@@ -20,7 +19,7 @@ use Rattle.laws.proofs.Sweep.{masked-on, masked-off}
 use Rattle.laws.proofs.Eliminations.{right-on}
 use Rattle.num.specs.Order.{clampOf}
 use Rattle.pfaffian.specs.Work.{Kept}
-use Rattle.pfaffian.specs.Shot.{tiny, mabOf, drawnOf, drawn, spinOf, den, projected, updated, next}
+use Rattle.pfaffian.specs.Shot.{tiny, mabOf, drawnOf, drawn, spinOf, den, projected, updated}
 use Rattle.pfaffian.specs.Turns.{laid, laidPair, projectedBy, measured, Stands, Measures}
 use Rattle.pfaffian.proofs.Keeping.{kept-matrix, kept-then}
 

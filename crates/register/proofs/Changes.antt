@@ -25,8 +25,7 @@ use Rattle.register.specs.Bits.{turnedOf, firstOf, secondOf, turn1, turn
 use Rattle.register.specs.Blocks.{Turn, Block, Closed}
 use Rattle.register.proofs.Fusing.{fused-keeps}
 use Rattle.register.proofs.Compressing.{compressed-keeps}
-use Rattle.register.proofs.Readings.{turn-id, turned-id, turn-mul, turned-mul}
-use Rattle.register.proofs.Readings.{first-is, second-is, mul-first, mul-second, kron-first, kron-second, renamed-first, renamed-second}
+use Rattle.register.proofs.Readings.{turn-id, turned-id, turn-mul, turned-mul, first-is, second-is, mul-first, mul-second, kron-first, kron-second, renamed-first, renamed-second}
 
 -- ---- changes of different places commute
 

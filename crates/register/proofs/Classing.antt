@@ -17,8 +17,7 @@ use Rattle.monomial.specs.Tolerance.{Tolerance}
 use Rattle.monomial.proofs.Algebra.{times-even, kron-even, renamed-even, times-fits, kron-fits, renamed-fits}
 use Rattle.monomial.proofs.Tests.{eqPhase}
 use Rattle.monomial.proofs.Diagonals.{diagonal}
-use Rattle.monomial.proofs.Classes.{swapped, swapped-has, swapped-bitA, swapped-bitB, swapped-even, swapped-fits}
-use Rattle.monomial.proofs.Classes.{classify-fits, classify-unfit, classify-swapped}
+use Rattle.monomial.proofs.Classes.{swapped, swapped-has, swapped-bitA, swapped-bitB, swapped-even, swapped-fits, classify-fits, classify-unfit, classify-swapped}
 use Rattle.resolve.specs.Items.{kindOf}
 use Rattle.register.specs.Blocks.{Closed, EvenSum, KindIs, matchgate, phaseless, interacting, neither, ClassIs, Rules}
 

@@ -23,18 +23,15 @@ use Rattle.fuse.specs.Events.{Event, gone, one, two, three}
 use Rattle.resolve.specs.declared.choose.Choice.{Choice}
 use Rattle.resolve.specs.Items.{Item}
 use Rattle.resolve.specs.Cuts.{ahead, prefixOf}
-use Rattle.resolve.specs.Resolve.{Rest, none, opened, longer, Resolved, lengthened, promised, emptied, renamed, added, passed, itemOf, settled}
-use Rattle.resolve.specs.Resolve.{candidates, chosen, resolveStep, resolved}
+use Rattle.resolve.specs.Resolve.{Rest, none, opened, longer, Resolved, lengthened, promised, emptied, renamed, added, passed, itemOf, settled, candidates, chosen, resolveStep, resolved}
 use Rattle.register.specs.Bits.{turnedOf, firstOf, secondOf, turn1, turn2, eventBits, itemsRun, zeros}
 use Rattle.register.specs.Blocks.{Turn, Block, Pair, Places, ClassIs, Rules, ItemIs}
-use Rattle.register.proofs.Readings.{turned-id, turn-id, turn-mul, turned-mul}
-use Rattle.register.proofs.Readings.{first-is, second-is, mul-first, mul-second, kron-first, kron-second}
+use Rattle.register.proofs.Readings.{turned-id, turn-id, turn-mul, turned-mul, first-is, second-is, mul-first, mul-second, kron-first, kron-second}
 use Rattle.register.proofs.Changes.{turn2-away, block-mul, block-kron}
 use Rattle.register.proofs.Permuting.{by-three, traded-at, traded-places}
 use Rattle.register.proofs.Relabelling.{SlotEvent}
 use Rattle.register.proofs.Choosing.{picked}
-use Rattle.register.proofs.Tails.{turnedAll, prefix-turn, prefix-turned, ahead-gone, ahead-own, ahead-other, ahead-block}
-use Rattle.register.proofs.Tails.{ahead-first, ahead-second, ahead-turn}
+use Rattle.register.proofs.Tails.{turnedAll, prefix-turn, prefix-turned, ahead-gone, ahead-own, ahead-other, ahead-block, ahead-first, ahead-second, ahead-turn}
 
 -- a property of the numbers below n: of one of them, and of the others
 by-one : (P : ℕ → Type 0) (n v : ℕ) → P v → ((w : ℕ) → w < n → w ≢ v → P w) → (w : ℕ) → w < n → P w

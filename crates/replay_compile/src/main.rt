@@ -1,9 +1,7 @@
 // Replays the stored tapes through `compile` and prints how many answers agree with those of the original: the number and the place of a refusal, every
 // field of the report, every place of the operation slice, and what is left in the lent work.
 ghost use Prim.Native.Nat.{_≤_};
-ghost use lib.ListN.{length};
 use detect::Answer;
-use detect::Compiled;
 use detect::Report;
 use libc::STDOUT_FILENO;
 use order::Ordering;

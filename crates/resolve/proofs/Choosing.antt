@@ -1,11 +1,10 @@
 -- The search for the best cuts, cut by cut: what is left to try from a cut on; and that it turns on what the cuts take and on nothing else.
 -- Assumes nothing.
-use mathlib.Core.Path.{_≡_, refl, sym, ap, _∙_}
+use mathlib.Core.Path.{_≡_, refl, ap, _∙_}
 use mathlib.Core.Bool.{Bool, true, false, cond}
 use mathlib.Core.List.{List, [], _∷_}
 use Prim.Native.Nat.{ℕ, zero, suc, _+_, _-_, _≤_, _<_}
 use native.Mathlib.Omega.{arith}
-use native.Mathlib.Numerals.{add-one}
 use lib.Ieee.{Float}
 use Rattle.laws.specs.Lists.{All}
 use Rattle.laws.specs.Views.{upFrom}

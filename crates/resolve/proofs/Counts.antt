@@ -1,6 +1,6 @@
 -- How many cuts a tail has: one more than its gates up to 17, and 18 beyond. The cuts at both ends are kept, and those between are not.
 -- Assumes nothing.
-use mathlib.Core.Path.{_≡_, refl, sym, ap, ap₂, _∙_}
+use mathlib.Core.Path.{_≡_, refl, ap, ap₂, _∙_}
 use mathlib.Core.Logic.{_⊎_, inl, inr}
 use mathlib.Core.Bool.{Bool, true, false, cond, _||_}
 use mathlib.Core.List.{List, [], _∷_, _++_}
@@ -12,7 +12,7 @@ use lib.ListN.{length, length-append}
 use borrow.Author.Tests.{le-leb, lt-leb}
 use Rattle.laws.specs.Views.{upFrom}
 use Rattle.laws.proofs.Cases.{lt-or-le}
-use Rattle.laws.proofs.Views.{length-up, up-join}
+use Rattle.laws.proofs.Views.{up-join}
 use Rattle.resolve.specs.Cuts.{cutWindow, inWindow, keep, cuts}
 
 -- ---- what is kept of the numbers from k on

@@ -1,31 +1,28 @@
 -- An event dealt with, as the definition's step on the event that its record holds; and one event after the other. Assumes nothing.
 use mathlib.Core.Path.{_≡_, refl, sym, ap, ap₂, subst, _∙_}
-use mathlib.Core.Logic.{_⊎_, inl, inr, _≢_}
-use mathlib.Core.Bool.{Bool, true, false, cond, _||_}
-use mathlib.Core.List.{List, [], _∷_, _++_}
-use Prim.Native.Nat.{ℕ, zero, suc, _+_, _*_, _-_, _≤_, _<_}
+use mathlib.Core.Logic.{inl, _≢_}
+use mathlib.Core.Bool.{Bool}
+use mathlib.Core.List.{List, []}
+use Prim.Native.Nat.{ℕ, _+_, _*_, _-_, _≤_, _<_}
 use native.Mathlib.Omega.{arith}
 use lib.ListN.{length, getD}
 use lib.Ieee.{Float, nan}
-use Rattle.laws.specs.Views.{listOf, upFrom}
+use Rattle.laws.specs.Views.{upFrom}
 use Rattle.laws.proofs.Views.{getD-listOf, up-head, up-same}
 use Rattle.gate.specs.Matrix.{mul4Of, kronOf}
-use Rattle.gate.specs.Lent.{mat2At}
-use Rattle.gate.specs.declared.matrix.Mat2.{Mat2}
 use Rattle.gate.specs.declared.matrix.Mat4.{Mat4}
 use Rattle.gate.proofs.Stored.{mat2-alike}
 use Rattle.work.specs.Marks.{markAt, putMark}
 use Rattle.work.specs.Columns.{kindColumn, aColumn, bColumn, cColumn, labColumn, goneKind, oneKind, twoKind, threeKind}
 use Rattle.work.proofs.Records.{put-here}
 use Rattle.fuse.specs.Events.{Event, gone, one, two, three}
-use Rattle.fuse.specs.Layout.{matrix2Of, matrix4Of, eventAt}
+use Rattle.fuse.specs.Layout.{matrix2Of, matrix4Of, eventAt, Space, Within}
 use Rattle.fuse.proofs.Places.{one-at, two-at, three-at, gone-at}
 use Rattle.resolve.specs.declared.choose.Search.{Search}
 use Rattle.resolve.specs.declared.settle.Tally.{Tally}
 use Rattle.resolve.specs.Cuts.{ahead, cuts, prefixOf}
 use Rattle.resolve.specs.Choose.{chooseOf}
-use Rattle.resolve.specs.Resolve.{Rest, none, opened, Resolved, passed, settled, closed, candidates, chosen, resolveStep, resolved}
-use Rattle.fuse.specs.Layout.{Space, Within}
+use Rattle.resolve.specs.Resolve.{none, opened, Resolved, passed, settled, closed, candidates, chosen, resolveStep, resolved}
 use Rattle.resolve.specs.Slots.{restAt, itemAt, stateAt, todo, firstRow, secondRow, RowOnly, Prefixes, Moved, maxCandidates, Dealt, AllDealt}
 use Rattle.resolve.proofs.Counts.{pairs-few}
 use Rattle.resolve.proofs.Choosing.{choose-same}

@@ -1,8 +1,8 @@
 -- The slots before the first event and after the last: what the loops over them have made of the first s slots. Assumes nothing.
 use mathlib.Core.Path.{_≡_, refl, sym, ap, ap₂, _∙_}
-use mathlib.Core.Logic.{_⊎_, inl, inr, ⊎-elim, _≢_}
-use mathlib.Core.Bool.{Bool, true, false, cond}
-use mathlib.Core.List.{List, [], _∷_, _++_}
+use mathlib.Core.Logic.{_≢_}
+use mathlib.Core.Bool.{false}
+use mathlib.Core.List.{List, [], _++_}
 use Prim.Native.Nat.{ℕ, zero, suc, _+_, _*_, _-_, _≤_, _<_}
 use native.Mathlib.Nat.{add-zero, add-suc}
 use native.Mathlib.Omega.{arith}
@@ -11,18 +11,15 @@ use lib.ListN.{length, getD}
 use lib.Ieee.{Float}
 use borrow.Author.Count.{below-more}
 use borrow.Author.Tests.{ne-eqb}
-use Rattle.laws.specs.Views.{listOf}
 use Rattle.laws.proofs.Views.{getD-listOf}
 use Rattle.work.specs.Marks.{markAt, putMark}
-use Rattle.work.specs.Columns.{kindColumn, aColumn, bColumn, cColumn, labColumn, contentColumn, goneKind, oneItem}
+use Rattle.work.specs.Columns.{kindColumn, aColumn, cColumn, labColumn, contentColumn, goneKind, oneItem}
 use Rattle.work.proofs.Records.{put-size, put-here, put-column, put-record}
-use Rattle.fuse.specs.Layout.{eventAt, matrix2Of}
 use Rattle.fuse.proofs.Places.{event-alike}
 use Rattle.fuse.proofs.Listed.{listed-same}
 use Rattle.resolve.specs.declared.settle.Tally.{Tally}
-use Rattle.resolve.specs.Items.{Item, newestFirst}
-use Rattle.resolve.specs.Resolve.{Rest, none, rest, Resolved, restItem, withRests, startOf}
-use Rattle.fuse.specs.Layout.{Within}
+use Rattle.resolve.specs.Items.{newestFirst}
+use Rattle.resolve.specs.Resolve.{none, Resolved, restItem, withRests, startOf}
 use Rattle.resolve.specs.Slots.{restAt, splitAt, itemAt, stateAt, emptiedMarks, Begun, Finished}
 use Rattle.resolve.proofs.Records.{newest-same, newest-more, MarksOf, marks-same, marks-put, item-alike}
 use Rattle.resolve.proofs.States.{emptied-marks, emptied-kind, emptied-split}

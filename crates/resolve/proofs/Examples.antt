@@ -1,8 +1,8 @@
 -- Worked values of the definitions, by computation: cuts of tails of 2 and 19 gates, a tail, remainders and an opaque block. Assumes nothing.
 use mathlib.Core.Path.{_≡_, refl}
 use mathlib.Core.Bool.{true}
-use mathlib.Core.List.{List, [], _∷_, reverse}
-use lib.Ieee.{binary64, add, sub, mul, ofBits}
+use mathlib.Core.List.{[], _∷_}
+use lib.Ieee.{add, sub, mul, ofBits}
 use Rattle.laws.specs.Views.{until, upFrom}
 use Rattle.gate.specs.Complex.{f0}
 use Rattle.gate.specs.Matrix.{mul2Of, dot2Of}

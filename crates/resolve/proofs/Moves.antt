@@ -4,29 +4,25 @@ use mathlib.Core.Path.{_≡_, refl, sym, ap, ap₂, _∙_}
 use mathlib.Core.Logic.{_≢_}
 use mathlib.Core.Bool.{Bool, true, false, cond, _||_}
 use mathlib.Core.List.{List, [], _∷_}
-use Prim.Native.Nat.{ℕ, _+_, _*_, _-_, _≤_, _<_}
+use Prim.Native.Nat.{ℕ, _+_, _-_, _<_}
 use native.Mathlib.Nat.{add-zero}
 use native.Mathlib.Omega.{arith}
 use lib.Dec.{eqb}
 use lib.ListN.{length, getD}
 use lib.Ieee.{Float}
 use borrow.Author.Tests.{eq-eqb, ne-eqb}
-use Rattle.laws.specs.Views.{listOf}
 use Rattle.laws.proofs.Views.{getD-listOf}
 use Rattle.gate.specs.Matrix.{mul2Of}
 use Rattle.gate.specs.declared.matrix.Mat2.{Mat2}
 use Rattle.work.specs.Marks.{markAt, putMark}
-use Rattle.work.specs.Columns.{kindColumn, aColumn, bColumn, cColumn, labColumn, contentColumn, goneKind, oneKind, oneItem, opaqueItem}
-use Rattle.work.proofs.Records.{put-size, put-here}
-use Rattle.fuse.specs.Events.{Event}
-use Rattle.fuse.specs.Layout.{matrix2Of, putMatrix2Of, eventAt}
+use Rattle.work.specs.Columns.{kindColumn, aColumn, cColumn, labColumn, contentColumn, oneKind, oneItem, opaqueItem}
+use Rattle.fuse.specs.Layout.{matrix2Of, putMatrix2Of, eventAt, Space, Within}
 use Rattle.majorana.specs.Classify.{residualOf}
 use Rattle.resolve.specs.declared.choose.Choice.{Choice}
 use Rattle.resolve.specs.declared.settle.Tally.{Tally}
 use Rattle.resolve.specs.Items as Items
-use Rattle.resolve.specs.Items.{Item, kindOf}
+use Rattle.resolve.specs.Items.{kindOf}
 use Rattle.resolve.specs.Resolve.{Resolved, opened, lengthened, promised, emptied, renamed, added, passed, itemOf, settled, closed}
-use Rattle.fuse.specs.Layout.{Space, Within}
 use Rattle.resolve.specs.Slots.{restAt, splitAt, itemAt, stateAt, emptiedMarks, tradedMarks, itemMarks, itemFloats, Moved}
 use Rattle.resolve.proofs.Records.{marks-same, marks-put, floats-same, floats-put2}
 use Rattle.resolve.proofs.States.{slot-event, slot-within, emptied-marks, emptied-state, lengthened-state, promised-state, traded-size, traded-lab, traded-event, traded-within, renamed-state, own-added, own-none, own-event, own-within, item-marks, opaque-item, item-floats, block-item}

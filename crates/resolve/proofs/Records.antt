@@ -1,9 +1,8 @@
 -- What one record's change leaves as it was: of the marks and the floats, of the events, remainders, splits, wires and items. A record is that of a
 -- slot, g + s, or that of the event in hand, i. Assumes nothing.
-use mathlib.Core.Path.{_≡_, refl, sym, ap, ap₂, _∙_}
+use mathlib.Core.Path.{_≡_, refl, sym, ap₂, _∙_}
 use mathlib.Core.Logic.{_⊎_, inl, inr, ⊎-elim, _≢_}
-use mathlib.Core.Bool.{Bool, true, false, cond}
-use mathlib.Core.List.{List, [], _∷_, _++_}
+use mathlib.Core.List.{List, _++_}
 use Prim.Native.Nat.{ℕ, zero, suc, _+_, _*_, _-_, _≤_, _<_}
 use native.Mathlib.Omega.{arith}
 use native.Mathlib.Numerals.{add-one}
@@ -16,15 +15,12 @@ use Rattle.gate.specs.declared.matrix.Mat2.{Mat2}
 use Rattle.gate.specs.declared.matrix.Mat4.{Mat4}
 use Rattle.gate.proofs.Stored.{length-row, place-stays, length4, place-stays4, mat2-alike, mat4-alike}
 use Rattle.work.specs.Marks.{markAt, putMark}
-use Rattle.work.specs.Columns.{kindColumn, aColumn, bColumn, cColumn, labColumn, contentColumn}
+use Rattle.work.specs.Columns.{kindColumn, aColumn, bColumn, labColumn, contentColumn}
 use Rattle.work.proofs.Records.{put-size, put-column, put-record}
-use Rattle.fuse.specs.Events.{Event}
-use Rattle.fuse.specs.Layout.{matrix2Of, matrix4Of, putMatrix2Of, putMatrix4Of, eventAt}
+use Rattle.fuse.specs.Layout.{putMatrix2Of, putMatrix4Of, eventAt, Within}
 use Rattle.fuse.proofs.Places.{event-alike}
 use Rattle.resolve.specs.Items.{Item, newestFirst}
-use Rattle.resolve.specs.Resolve.{Rest}
-use Rattle.fuse.specs.Layout.{Within}
-use Rattle.resolve.specs.Slots.{restAt, splitAt, residualAt, itemAt, todo}
+use Rattle.resolve.specs.Slots.{restAt, splitAt, itemAt}
 
 -- ---- items by their records
 

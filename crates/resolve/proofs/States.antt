@@ -1,15 +1,14 @@
 -- What each write of the code makes of the state: a slot emptied, lengthened or promised, wires renamed, an item added, scratch written.
 -- A state is a list for each of its parts; what stays is by `Records`. Assumes nothing.
 use mathlib.Core.Path.{_≡_, refl, sym, ap, ap₂, _∙_}
-use mathlib.Core.Logic.{_⊎_, inl, inr, ⊎-elim, _≢_}
-use mathlib.Core.Bool.{Bool, true, false, cond, _||_}
+use mathlib.Core.Logic.{_⊎_, inl, ⊎-elim, _≢_}
+use mathlib.Core.Bool.{Bool, _||_}
 use mathlib.Core.List.{List, [], _∷_, _++_}
-use Prim.Native.Nat.{ℕ, zero, suc, _+_, _*_, _-_, _≤_, _<_}
+use Prim.Native.Nat.{ℕ, _+_, _*_, _-_, _≤_, _<_}
 use native.Mathlib.Omega.{arith}
 use lib.ListN.{length, getD, set}
 use lib.Seq.{getD-set-same, getD-set-other}
 use lib.Ieee.{Float, nan}
-use Rattle.laws.specs.Slices.{traded}
 use Rattle.laws.specs.Views.{listOf}
 use Rattle.laws.proofs.Cases.{eq-or-ne}
 use Rattle.laws.proofs.Views.{getD-listOf}
@@ -19,8 +18,7 @@ use Rattle.gate.proofs.Stored.{mat2-back, length4, mat4-back, mat4-alike}
 use Rattle.work.specs.Marks.{markAt, putMark}
 use Rattle.work.specs.Columns.{kindColumn, aColumn, bColumn, cColumn, labColumn, contentColumn, goneKind, oneItem, opaqueItem}
 use Rattle.work.proofs.Records.{put-size, put-here, put-column, put-record}
-use Rattle.fuse.specs.Events.{Event}
-use Rattle.fuse.specs.Layout.{matrix2Of, matrix4Of, putMatrix2Of, putMatrix4Of, eventAt}
+use Rattle.fuse.specs.Layout.{matrix2Of, matrix4Of, putMatrix2Of, putMatrix4Of, eventAt, Within}
 use Rattle.fuse.proofs.Places.{event-alike}
 use Rattle.fuse.proofs.Listed.{listed-same, listed-set, listed-traded}
 use Rattle.majorana.specs.Classify.{residualOf}
@@ -30,8 +28,7 @@ use Rattle.majorana.specs.declared.classify.Kind2.the-variants.{Diag, Interacti
 use Rattle.resolve.specs.declared.settle.Tally.{Tally}
 use Rattle.resolve.specs.Items as Items
 use Rattle.resolve.specs.Items.{Item, kindOf, newestFirst}
-use Rattle.resolve.specs.Resolve.{Rest, none, rest, opened, longer, Resolved, lengthened, promised, emptied, renamed, added}
-use Rattle.fuse.specs.Layout.{Within}
+use Rattle.resolve.specs.Resolve.{Rest, none, rest, opened, longer, lengthened, promised, emptied, renamed, added}
 use Rattle.resolve.specs.Slots.{restAt, splitAt, residualAt, item, itemAt, stateAt, emptiedMarks, tradedMarks, itemMarks, itemFloats, RowOnly}
 use Rattle.resolve.proofs.Records.{newest-same, newest-more, MarksOf, FloatsOf, marks-same, marks-put, floats-same, floats-put2, floats-put4, floats-set, item-alike, rest-alike, other-event, other-item, other-rest, other-split, other-within}
 

@@ -15,12 +15,12 @@ use Rattle.laws.specs.Views.{until, upFrom}
 use Rattle.laws.proofs.Cases.{lt-or-le}
 use Rattle.laws.proofs.Views.{up-head, up-same}
 use Rattle.gate.specs.Matrix.{id2, timeStepOf, timeProductOf, timeProductFrom}
-use Rattle.gate.specs.Lent.{mat2At, mat4At, store2Of, flat}
+use Rattle.gate.specs.Lent.{mat2At, store2Of, flat}
 use Rattle.gate.specs.declared.matrix.Mat2.{Mat2}
 use Rattle.gate.proofs.Stored.{length-row, place-stays, mat2-alike, mat2-back}
 use Rattle.gate.proofs.Products.{time-product-more}
-use Rattle.fuse.specs.Events.{Event, gone, one, two, three, oneOn, blockOn, times}
-use Rattle.fuse.specs.Layout.{eventAt, matrix2Of, oneAt, blockAt, oneTest}
+use Rattle.fuse.specs.Events.{Event, gone, one, two, three, oneOn, blockOn}
+use Rattle.fuse.specs.Layout.{eventAt, matrix2Of, oneAt, blockAt}
 use Rattle.fuse.proofs.Places.{one-is, block-is, event-alike}
 use Rattle.work.specs.Marks.{markAt}
 use Rattle.resolve.specs.Cuts.{ones, ahead, prefixOf}

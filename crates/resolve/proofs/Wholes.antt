@@ -1,18 +1,16 @@
 -- The passes one after the other are the definition of fusing as a whole. Assumes nothing.
 use mathlib.Core.Path.{_≡_, refl, sym, ap, ap₂, _∙_}
 use mathlib.Core.Bool.{Bool}
-use mathlib.Core.List.{List, [], _++_, reverse, append-nil, reverse-reverse}
-use Prim.Native.Nat.{ℕ, _+_, _-_, _≤_, _<_}
+use mathlib.Core.List.{List, reverse, append-nil, reverse-reverse}
+use Prim.Native.Nat.{ℕ, _-_}
 use native.Mathlib.Nat.{zero-add}
 use native.Mathlib.Omega.{arith}
-use lib.ListN.{length}
 use lib.Ieee.{Float}
 use Rattle.laws.specs.Views.{listOf, downTo, upFrom, between}
 use Rattle.laws.proofs.Views.{up-same, up-reverse, down-split}
 use Rattle.work.specs.Marks.{markAt, Only}
 use Rattle.work.specs.Columns.{labColumn, contentColumn}
 use Rattle.tape.specs.Parse.{gatesOf}
-use Rattle.fuse.specs.Events.{Event}
 use Rattle.fuse.specs.Relabel.{Labelled, labelled, unlabelled}
 use Rattle.fuse.specs.Slotted.{labelledAt, Relabelled}
 use Rattle.fuse.specs.Fuse.{fused}
@@ -20,10 +18,9 @@ use Rattle.fuse.specs.Compress.{compressed}
 use Rattle.fuse.specs.Layout.{Within, eventAt, kinds, Passed}
 use Rattle.fuse.proofs.Listed.{listed-same}
 use Rattle.resolve.specs.declared.settle.Tally.{Tally}
-use Rattle.resolve.specs.Items.{newestFirst}
-use Rattle.resolve.specs.Resolve.{Resolved, resolved, withRests, startOf}
-use Rattle.resolve.specs.Slots.{itemAt, stateAt, todo, fresh, AllDealt, Begun, Finished}
-use Rattle.resolve.specs.Whole.{resolvedOf, Fused, fusedOf, fuseOf, fuseGatesOf, fusedAt, Whole}
+use Rattle.resolve.specs.Resolve.{resolved}
+use Rattle.resolve.specs.Slots.{stateAt, todo, fresh, AllDealt, Begun, Finished}
+use Rattle.resolve.specs.Whole.{resolvedOf, fusedOf, fuseOf, fuseGatesOf, fusedAt, Whole}
 
 -- the newest first, turned round
 down-reverse : {A : Type 0} (e : ℕ → A) (g : ℕ) → reverse (downTo e g) ≡ upFrom e 0 g

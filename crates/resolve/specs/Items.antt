@@ -1,6 +1,6 @@
 -- The items (000, `Item`): fused, classified blocks in terms of wires. Of a two-qubit item's kind a number is kept, `matchItem` to `neitherItem`, as in
 -- the lent work; whether the phase counts as none is part of it. Assumes nothing.
-use mathlib.Core.List.{List, [], _∷_, _++_}
+use mathlib.Core.List.{List, [], _++_}
 use Prim.Native.Nat.{ℕ, zero, suc, _<_}
 use lib.Ieee.{Float}
 use Rattle.laws.specs.Lists.{All}

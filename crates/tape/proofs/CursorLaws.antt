@@ -15,8 +15,7 @@ use Rattle.tape.specs.Header.{headerAt}
 use Rattle.tape.specs.Codes.{gateLength}
 use Rattle.tape.specs.Records.{codeAt, recordAt}
 use Rattle.tape.specs.Gates.{gateAt}
-use Rattle.tape.specs.Parse.{Content, Parsed, refused, accepted, nothing, stepped, walk, parse, isAccepted, contentOf, gatesOf, placesOf}
-use Rattle.tape.specs.Parse.{labelsOf, checkedOf}
+use Rattle.tape.specs.Parse.{Content, Parsed, refused, accepted, nothing, stepped, walk, parse, isAccepted, contentOf, gatesOf, placesOf, labelsOf, checkedOf}
 use Rattle.tape.specs.Cursor.{Cursor, Stands}
 use Rattle.tape.specs.declared.header.Header.{Header}
 use Rattle.tape.specs.declared.record.Step.{Step}

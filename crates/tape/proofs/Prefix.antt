@@ -13,12 +13,10 @@ use lib.Ieee.{binary64, ofBits}
 use borrow.Author.Tests.{ltb-false, lt-leb, le-ltb}
 use Rattle.num.specs.Bits.{byteAt, le16, le32, le64, f64At}
 use Rattle.laws.proofs.Cases.{lt-or-le}
-use Rattle.tape.specs.Bounds.{maxQubits, maxFlags, maxGates, maxLabel, headerLength, markByte, headerMark, gateMark, labelMark, leading}
-use Rattle.tape.specs.Bounds.{longest}
+use Rattle.tape.specs.Bounds.{maxQubits, maxFlags, maxGates, maxLabel, headerLength, markByte, headerMark, gateMark, labelMark, leading, longest}
 use Rattle.tape.specs.Header.{headerAt, isTolerance, headerMarked, headerOf}
 use Rattle.tape.specs.Codes.{qubitsOf, floatsOf, gateLength}
-use Rattle.tape.specs.Records.{markedAt, codeAt, qubitAt, qubitsBelow, qubitsDiffer, smallEntry, entriesSmall, gateFault, sound}
-use Rattle.tape.specs.Records.{gateRecordAt, printable, labelBytes, labelRecordAt, recordAt}
+use Rattle.tape.specs.Records.{markedAt, codeAt, qubitAt, qubitsBelow, qubitsDiffer, smallEntry, entriesSmall, gateFault, sound, gateRecordAt, printable, labelBytes, labelRecordAt, recordAt}
 use Rattle.tape.specs.Gates.{gateAt}
 use Rattle.tape.specs.Parse.{Parsed, refused, accepted, withGate, withLabel, afterHeader, parse}
 use Rattle.tape.specs.declared.header.Header.{Header}

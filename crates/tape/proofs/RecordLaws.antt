@@ -10,8 +10,7 @@ use borrow.Author.Tests.{ltb-false, leb-true, leb-false, eqb-false, eqb-true}
 use Rattle.num.specs.Bits.{byteAt}
 use Rattle.tape.specs.Bounds.{maxGates, maxLabel, markByte, gateMark, labelMark, leading}
 use Rattle.tape.specs.Codes.{qubitsOf, floatsOf, gateLength}
-use Rattle.tape.specs.Records.{markedAt, codeAt, entriesAt, qubitsBelow, qubitsDiffer, entriesSmall, gateFault, sound, gateRecordAt}
-use Rattle.tape.specs.Records.{labelBytes, labelRecordAt, recordAt}
+use Rattle.tape.specs.Records.{markedAt, codeAt, entriesAt, qubitsBelow, qubitsDiffer, entriesSmall, gateFault, sound, gateRecordAt, labelBytes, labelRecordAt, recordAt}
 use Rattle.tape.specs.Gates.{WholeGate}
 use Rattle.tape.specs.declared.record.Step.{Step}
 use Rattle.tape.specs.declared.record.Step.the-variants.{Gate, Label, End, Refused}

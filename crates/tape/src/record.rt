@@ -2,9 +2,8 @@
 ghost use mathlib.Core.Path.{_≡_};
 ghost use Prim.Native.Nat.{_+_, _*_, _<_, _≤_};
 ghost use lib.ListN.{length};
-ghost use Rattle.tape.specs.Codes.{qubitsOf, floatsOf, gateLength};
-ghost use Rattle.tape.specs.Records.{markedAt, codeAt, qubitAt, qubitsBelow, qubitsDiffer, smallEntry, entriesSmall, gateFault};
-ghost use Rattle.tape.specs.Records.{gateRecordAt, labelBytes, labelRecordAt, recordAt};
+ghost use Rattle.tape.specs.Codes.{gateLength};
+ghost use Rattle.tape.specs.Records.{markedAt, codeAt, qubitAt, qubitsBelow, qubitsDiffer, smallEntry, entriesSmall, gateFault, gateRecordAt, labelBytes, labelRecordAt, recordAt};
 use crate::bounds::GATE_MARK;
 use crate::bounds::LABEL_MARK;
 use crate::bounds::LEADING;

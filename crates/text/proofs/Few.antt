@@ -19,8 +19,7 @@ use Rattle.fuse.specs.Relabel.{Labelled, swapCode, slotOf, put, swapped, label,
 use Rattle.fuse.specs.Fuse.{joined, place, fuseStep, fused}
 use Rattle.fuse.specs.Compress.{diagonal2Of, press, compressStep, compressed}
 use Rattle.resolve.specs.Items.{Item}
-use Rattle.resolve.specs.Resolve.{Rest, none, rest, Resolved, lengthened, promised, emptied, renamed, added}
-use Rattle.resolve.specs.Resolve.{itemOf, candidates, chosen, resolveStep, resolved, restItem, withRests, startOf}
+use Rattle.resolve.specs.Resolve.{Rest, none, rest, Resolved, lengthened, promised, emptied, renamed, added, itemOf, candidates, chosen, resolveStep, resolved, restItem, withRests, startOf}
 use Rattle.resolve.specs.declared.choose.Choice.{Choice}
 use Rattle.resolve.specs.Whole.{resolvedOf, fuseOf}
 use Rattle.detect.specs.Report.{freeOf, reportOf}

@@ -2,8 +2,7 @@
 ghost use mathlib.Core.Path.{_≡_};
 ghost use Prim.Native.Nat.{_+_, _<_, _≤_};
 ghost use lib.ListN.{length};
-ghost use Rattle.text.specs.Ascii.{decimal};
-ghost use Rattle.text.specs.Ascii.{digit as Ascii·digit};
+ghost use Rattle.text.specs.Ascii.{decimal, digit as Ascii·digit};
 ghost use Rattle.text.specs.Put.{Put};
 
 pub fn put(word: &[u8], out: &mut [u8], at: usize) -> usize

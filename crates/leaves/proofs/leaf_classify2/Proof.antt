@@ -1,6 +1,6 @@
 -- `leaves::leaf_classify2` meets its contract: number and matrix are those of the class.
 -- Assumes nothing.
-use mathlib.Core.Path.{_≡_, _∙_, ap}
+use mathlib.Core.Path.{_∙_, ap}
 use borrow.Author.Needs.{needs}
 use Rattle.majorana.specs.Classify.{classify2Of}
 use Rattle.majorana.specs.declared.classify.Class2.{Class2}

@@ -1,6 +1,5 @@
 -- `replay_fuse::slots_agree` is safe and ends: one slot a turn. Assumes nothing.
 use Prim.Native.Nat.{_≤_, _-_}
-use lib.ListN.{length}
 use borrow.Author.Needs.{needs}
 use Rattle.replay_fuse.proofs.slots_agree.Statement.{statement}
 use Rattle.replay_fuse.proofs.slots_agree.Tie as tie

@@ -3,7 +3,6 @@ use mathlib.Core.Path.{sym, _∙_}
 use borrow.Author.Needs.{needs}
 use Rattle.tape.proofs.CursorLaws.{checked-passed}
 use Rattle.tape.proofs.GoodLaws.{gates-good}
-use Rattle.tape.specs.declared.header.Header.{Header}
 use Rattle.replay_fuse.proofs.tape_agrees.Statement.{statement}
 use Rattle.replay_fuse.proofs.tape_agrees.Tie as tie
 

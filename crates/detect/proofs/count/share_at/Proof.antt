@@ -1,12 +1,10 @@
 -- `detect::count::share_at` meets its contract: the kind says which item the record holds. Assumes nothing.
-use mathlib.Core.Path.{_≡_, refl, sym, ap, _∙_}
-use Prim.Native.Nat.{ℕ, _<_}
+use mathlib.Core.Path.{refl}
+use Prim.Native.Nat.{_<_}
 use native.Mathlib.Omega.{arith}
 use borrow.Author.Needs.{needs}
 use borrow.Author.Tests.{eq-eqb, ne-eqb}
 use Rattle.work.specs.Marks.{markAt}
-use Rattle.resolve.specs.Items.{ItemBelow}
-use Rattle.detect.specs.Records.{recordItem}
 use Rattle.detect.specs.Kept.{twoKept}
 use Rattle.detect.proofs.count.share_at.Statement.{statement}
 use Rattle.detect.proofs.count.share_at.Tie as tie

@@ -1,17 +1,16 @@
 -- `detect::emit::put_item` meets its contract: the kind says which item the record holds. Assumes nothing.
-use mathlib.Core.Path.{_≡_, refl, sym, ap, _∙_}
-use mathlib.Core.Logic.{_≢_}
-use mathlib.Core.List.{[], _∷_, _++_}
-use Prim.Native.Nat.{ℕ, _+_, _*_, _≤_, _<_}
+use mathlib.Core.Path.{refl, sym, ap, _∙_}
+use mathlib.Core.List.{_++_}
+use Prim.Native.Nat.{_+_}
 use native.Mathlib.Omega.{arith}
 use borrow.Author.Needs.{needs}
 use lib.ListN.{length, take, drop}
 use Rattle.work.specs.Marks.{markAt}
 use Rattle.majorana.specs.Majorana.{majoranaMap1Of}
-use Rattle.fuse.specs.Layout.{matrix2Of, matrix4Of}
+use Rattle.fuse.specs.Layout.{matrix2Of}
 use Rattle.detect.specs.Operation.{one, placesOf, allPlaces}
-use Rattle.detect.specs.Emit.{twoOperations, itemOperations}
-use Rattle.detect.specs.Records.{recordItem, modesIn}
+use Rattle.detect.specs.Emit.{itemOperations}
+use Rattle.detect.specs.Records.{modesIn}
 use Rattle.detect.proofs.Items.{record-one, record-two, record-opaque, wire-below, wires-below}
 use Rattle.detect.proofs.Placing.{put-none, put-one, one-long}
 use Rattle.detect.proofs.Emitting.{matchOf, record-match}

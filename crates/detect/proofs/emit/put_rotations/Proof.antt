@@ -1,11 +1,6 @@
 -- `detect::emit::put_rotations` meets its contract: the first wire's rotation, then the second's. Assumes nothing.
-use mathlib.Core.Path.{_≡_, sym, ap, ap₂, _∙_, subst}
-use mathlib.Core.List.{_++_}
-use Prim.Native.Nat.{_+_, _≤_}
 use borrow.Author.Needs.{needs}
-use lib.ListN.{length}
 use Rattle.majorana.specs.Diagonal.{phaseAOf, phaseBOf, rotationOf}
-use Rattle.detect.specs.Operation.{allPlaces, Put}
 use Rattle.detect.specs.Emit.{rotated, rotationsOf}
 use Rattle.detect.proofs.Placing.{first-room, next-room, put-both}
 use Rattle.detect.proofs.emit.put_rotations.Statement.{statement}

@@ -1,13 +1,13 @@
 -- `detect::emit::put_two` meets its contract, by kind. Assumes nothing.
-use mathlib.Core.Path.{_≡_, sym, ap, ap₂, _∙_, subst}
-use mathlib.Core.List.{[], _∷_, _++_}
-use Prim.Native.Nat.{_+_, _≤_}
+use mathlib.Core.Path.{ap, _∙_}
+use mathlib.Core.List.{[], _∷_}
+use Prim.Native.Nat.{_+_}
 use native.Mathlib.Omega.{arith}
 use borrow.Author.Needs.{needs}
 use lib.ListN.{length}
 use Rattle.majorana.specs.Diagonal.{interactionOf, unitOf}
-use Rattle.detect.specs.Operation.{interaction, placesOf, allPlaces, Put}
-use Rattle.detect.specs.Emit.{rotationsOf, twoOperations}
+use Rattle.detect.specs.Operation.{interaction, placesOf}
+use Rattle.detect.specs.Emit.{rotationsOf}
 use Rattle.detect.proofs.Placing.{put-none, put-one, put-length, one-long, first-room, next-room, put-both}
 use Rattle.detect.proofs.Emitting.{two-diagonal, two-interaction, two-neither}
 use Rattle.detect.proofs.emit.put_two.Statement.{statement}

@@ -1,11 +1,11 @@
 -- `detect::questions::clear_floats` meets its contract: each place is made zero. Assumes nothing.
-use mathlib.Core.Path.{_≡_, refl, sym, ap, _∙_}
-use Prim.Native.Nat.{ℕ, _-_, _≤_, _<_}
+use mathlib.Core.Path.{_≡_, refl}
+use Prim.Native.Nat.{_-_, _≤_}
 use native.Mathlib.Omega.{arith}
 use lib.ListN.{length, length-set}
 use lib.Ieee.{nan}
 use Rattle.laws.specs.Slices.{filled}
-use Rattle.laws.proofs.Slices.{mapped-none, mapped-more, mapped-end, length-mapped}
+use Rattle.laws.proofs.Slices.{mapped-none, mapped-more, mapped-end}
 use Rattle.gate.specs.Complex.{f0}
 use Rattle.detect.proofs.questions.clear_floats.Statement.{statement}
 use Rattle.detect.proofs.questions.clear_floats.Tie as tie

@@ -1,10 +1,10 @@
 -- `detect::questions::clear_marks` meets its contract: each place is made zero. Assumes nothing.
-use mathlib.Core.Path.{_≡_, refl, sym, ap, _∙_}
-use Prim.Native.Nat.{ℕ, _-_, _≤_, _<_}
+use mathlib.Core.Path.{_≡_, refl}
+use Prim.Native.Nat.{_-_, _≤_}
 use native.Mathlib.Omega.{arith}
 use lib.ListN.{length, length-set}
 use Rattle.laws.specs.Slices.{filled}
-use Rattle.laws.proofs.Slices.{mapped-none, mapped-more, mapped-end, length-mapped}
+use Rattle.laws.proofs.Slices.{mapped-none, mapped-more, mapped-end}
 use Rattle.detect.proofs.questions.clear_marks.Statement.{statement}
 use Rattle.detect.proofs.questions.clear_marks.Tie as tie
 

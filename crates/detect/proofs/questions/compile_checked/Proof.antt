@@ -1,11 +1,10 @@
 -- `detect::questions::compile_checked` meets its contract: question 9, and the parts that it names made zero. Assumes nothing.
-use mathlib.Core.Path.{_≡_, refl, sym, ap, _∙_}
-use Prim.Native.Nat.{ℕ, _+_, _*_, _≤_, _<_}
+use mathlib.Core.Path.{sym, _∙_}
+use Prim.Native.Nat.{_+_, _*_}
 use native.Mathlib.Omega.{arith}
 use borrow.Author.Needs.{needs}
 use lib.ListN.{length}
 use Rattle.gate.specs.Complex.{f0}
-use Rattle.detect.specs.Compile.{hasWork}
 use Rattle.detect.proofs.Checking.{taken, left, has-work, no-floats, no-marks, front-length, front-filled}
 use Rattle.detect.proofs.questions.compile_checked.Statement.{statement}
 use Rattle.detect.proofs.questions.compile_checked.Tie as tie

@@ -1,8 +1,6 @@
 -- `detect::tables::mode_of_qubit` meets its contract: each mark that is read is below n. Assumes nothing.
-use mathlib.Core.Path.{sym, ap, _∙_}
 use native.Mathlib.Omega.{arith}
 use borrow.Author.Needs.{needs}
-use Rattle.work.specs.Marks.{markAt}
 use Rattle.detect.proofs.tables.mode_of_qubit.Statement.{statement}
 use Rattle.detect.proofs.tables.mode_of_qubit.Tie as tie
 

@@ -1,13 +1,11 @@
 -- `fuse::back::clear_on` meets its contract: so far the gates passed are cleared, and the others are as they were.
 -- Assumes nothing.
-use mathlib.Core.Path.{_≡_, refl, sym, ap, _∙_}
+use mathlib.Core.Path.{sym, _∙_, subst}
 use native.Mathlib.Omega.{arith}
-use Prim.Native.Nat.{ℕ, _+_, _*_, _-_, _≤_, _<_}
+use Prim.Native.Nat.{_+_, _-_, _≤_}
 use borrow.Author.Needs.{needs}
-use mathlib.Core.List.{List}
 use mathlib.Core.Logic.{⊎-elim}
 use native.Mathlib.Nat.{le-refl, le-antisymm}
-use mathlib.Core.Path.{subst}
 use Rattle.fuse.specs.Layout.{Cleared}
 use Rattle.fuse.proofs.Places.{cleared-none, cleared-hit, cleared-miss}
 use Rattle.fuse.proofs.back.clear_on.Statement.{statement}

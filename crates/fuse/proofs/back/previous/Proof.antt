@@ -1,6 +1,6 @@
 -- `fuse::back::previous` meets its contract: what was passed over does not pass the test.
 -- Assumes nothing.
-use mathlib.Core.Path.{_≡_, refl, sym, ap, _∙_}
+use mathlib.Core.Path.{_≡_, refl, sym, _∙_}
 use native.Mathlib.Omega.{arith}
 use Prim.Native.Nat.{_≤_}
 use native.Mathlib.Nat.{le-refl}

@@ -1,9 +1,9 @@
 -- `fuse::back::product_on` meets its contract: the product so far is that of the gates passed.
 -- Assumes nothing.
 use Rattle.gate.specs.Matrix.{mul2Of}
-use mathlib.Core.Path.{_≡_, refl, sym, ap, _∙_}
+use mathlib.Core.Path.{_≡_, sym, ap, _∙_}
 use native.Mathlib.Omega.{arith}
-use Prim.Native.Nat.{ℕ, _+_, _*_, _-_, _≤_, _<_}
+use Prim.Native.Nat.{_-_, _≤_}
 use borrow.Author.Needs.{needs}
 use mathlib.Core.Logic.{⊎-elim}
 use native.Mathlib.Nat.{le-refl, le-antisymm}

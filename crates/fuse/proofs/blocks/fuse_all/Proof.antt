@@ -1,9 +1,7 @@
 -- `fuse::blocks::fuse_all` meets its contract: the first i events have gone through.
 -- Assumes nothing.
-use mathlib.Core.Path.{_≡_, refl, sym, ap, ap₂, _∙_}
 use native.Mathlib.Omega.{arith}
-use borrow.Author.Needs.{needs}
-use Prim.Native.Nat.{ℕ, _+_, _*_, _-_, _≤_, _<_}
+use Prim.Native.Nat.{_-_, _≤_}
 use native.Mathlib.Nat.{le-antisymm}
 use mathlib.Core.Path.{subst}
 use Rattle.fuse.specs.Fuse.{fused}

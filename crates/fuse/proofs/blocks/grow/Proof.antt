@@ -1,8 +1,8 @@
 -- `fuse::blocks::grow` meets its contract: a law for each way out.
 -- Assumes nothing.
-use mathlib.Core.Path.{_≡_, refl, sym, ap, ap₂, _∙_}
+use mathlib.Core.Path.{_≡_, sym, ap₂, _∙_}
 use native.Mathlib.Omega.{arith}
-use Prim.Native.Nat.{ℕ, _+_, _*_, _-_, _≤_, _<_}
+use Prim.Native.Nat.{_+_, _-_}
 use Rattle.laws.specs.Views.{seek}
 use Rattle.work.specs.Marks.{markAt}
 use Rattle.fuse.specs.Layout.{meetsAt}

@@ -1,10 +1,7 @@
 -- `fuse::blocks::join` meets its contract: by what each call says of the slices.
 -- Assumes nothing.
-use mathlib.Core.Path.{_≡_, refl, sym, ap, ap₂, _∙_}
 use native.Mathlib.Omega.{arith}
 use Rattle.fuse.proofs.Steps.{joined-is}
-use Rattle.gate.proofs.Stored.{length4}
-use Rattle.work.proofs.Records.{put-size}
 use borrow.Author.Needs.{needs}
 use Rattle.fuse.proofs.blocks.join.Statement.{statement}
 use Rattle.fuse.proofs.blocks.join.Tie as tie

@@ -1,7 +1,5 @@
 -- `fuse::relabel::label_gate` meets its contract: the arm says which gate it is.
 -- Assumes nothing.
-use mathlib.Core.Path.{_≡_, refl, sym, ap, ap₂, _∙_}
-use native.Mathlib.Omega.{arith}
 use borrow.Author.Needs.{needs}
 use Rattle.fuse.proofs.relabel.label_gate.Statement.{statement}
 use Rattle.fuse.proofs.relabel.label_gate.Tie as tie

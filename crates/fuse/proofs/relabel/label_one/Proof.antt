@@ -1,9 +1,6 @@
 -- `fuse::relabel::label_one` meets its contract: by the law for a one-qubit gate.
 -- Assumes nothing.
-use mathlib.Core.Path.{_≡_, refl, sym, ap, ap₂, _∙_}
 use native.Mathlib.Omega.{arith}
-use Rattle.gate.proofs.Stored.{length-row}
-use Rattle.fuse.specs.Layout.{Space, Within}
 use Rattle.fuse.proofs.Labels.{event-size, one-labelled}
 use borrow.Author.Needs.{needs}
 use Rattle.fuse.proofs.relabel.label_one.Statement.{statement}

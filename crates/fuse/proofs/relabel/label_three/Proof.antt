@@ -1,10 +1,7 @@
 -- `fuse::relabel::label_three` meets its contract: by the law for a three-qubit gate.
 -- Assumes nothing.
-use mathlib.Core.Path.{_≡_, refl, sym, ap, ap₂, _∙_}
 use native.Mathlib.Omega.{arith}
-use Rattle.fuse.specs.Layout.{Space, Within}
 use Rattle.fuse.proofs.Labels.{event-size, three-labelled}
-use borrow.Author.Needs.{needs}
 use Rattle.fuse.proofs.relabel.label_three.Statement.{statement}
 use Rattle.fuse.proofs.relabel.label_three.Tie as tie
 

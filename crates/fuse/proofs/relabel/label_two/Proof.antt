@@ -1,10 +1,7 @@
 -- `fuse::relabel::label_two` meets its contract: by the laws for a Swap that renames and for any other gate.
 -- Assumes nothing.
-use mathlib.Core.Path.{_≡_, refl, sym, ap, ap₂, _∙_}
+use mathlib.Core.Path.{sym, ap, _∙_}
 use native.Mathlib.Omega.{arith}
-use Rattle.gate.proofs.Stored.{length4}
-use Rattle.fuse.specs.Layout.{Space, Within}
-use Rattle.fuse.specs.Slotted.{swappedMarks}
 use Rattle.fuse.proofs.Labels.{event-size, swapped-size, two-labelled, swap-labelled}
 use lib.ListN.{length}
 use borrow.Author.Needs.{needs}

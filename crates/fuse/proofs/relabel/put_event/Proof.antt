@@ -1,8 +1,5 @@
 -- `fuse::relabel::put_event` meets its contract: the four marks are written in order.
 -- Assumes nothing.
-use mathlib.Core.Path.{_≡_, refl, sym, ap, ap₂, _∙_}
-use native.Mathlib.Omega.{arith}
-use Rattle.work.proofs.Records.{put-size}
 use Rattle.fuse.specs.Slotted.{eventMarks}
 use borrow.Author.Needs.{needs}
 use Rattle.fuse.proofs.relabel.put_event.Statement.{statement}

@@ -1,15 +1,12 @@
 -- `fuse::relabel::relabel_all` meets its contract: what is left of the definition, from gate k on, gives the whole.
 -- Assumes nothing.
-use mathlib.Core.Path.{_≡_, refl, sym, ap, ap₂, subst, _∙_}
+use mathlib.Core.Path.{refl, sym, subst, _∙_}
 use native.Mathlib.Omega.{arith}
-use Prim.Native.Nat.{ℕ, _+_, _*_, _-_, _≤_, _<_}
-use borrow.Author.Needs.{needs}
+use Prim.Native.Nat.{_+_, _-_}
 use lib.ListN.{drop}
 use Rattle.tape.specs.Gates.{gateAt}
 use Rattle.tape.specs.Parse.{gatesOf}
-use Rattle.tape.specs.Cursor.{Cursor, Stands}
 use Rattle.tape.specs.Good.{GoodGate}
-use Rattle.fuse.specs.Layout.{Space, Within}
 use Rattle.fuse.proofs.Labels.{heads, Relabelling, relabelling-none, relabelling-more, relabelling-end}
 use Rattle.fuse.proofs.relabel.relabel_all.Statement.{statement}
 use Rattle.fuse.proofs.relabel.relabel_all.Tie as tie

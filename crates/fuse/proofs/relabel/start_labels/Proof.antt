@@ -1,9 +1,7 @@
 -- `fuse::relabel::start_labels` meets its contract: the first q qubits have their own slots.
 -- Assumes nothing.
-use mathlib.Core.Path.{_≡_, refl, sym, ap, ap₂, _∙_}
 use native.Mathlib.Omega.{arith}
-use borrow.Author.Needs.{needs}
-use Prim.Native.Nat.{ℕ, _+_, _*_, _-_, _≤_, _<_}
+use Prim.Native.Nat.{_-_, _≤_}
 use Rattle.fuse.specs.Slotted.{Identity}
 use mathlib.Core.Path.{subst}
 use native.Mathlib.Nat.{le-antisymm}

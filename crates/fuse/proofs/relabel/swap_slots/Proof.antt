@@ -1,8 +1,5 @@
 -- `fuse::relabel::swap_slots` meets its contract: both slots are read before one is written.
 -- Assumes nothing.
-use mathlib.Core.Path.{_≡_, refl, sym, ap, ap₂, _∙_}
-use native.Mathlib.Omega.{arith}
-use Rattle.work.proofs.Records.{put-size}
 use Rattle.fuse.specs.Slotted.{swappedMarks}
 use borrow.Author.Needs.{needs}
 use Rattle.fuse.proofs.relabel.swap_slots.Statement.{statement}

@@ -1,13 +1,10 @@
 -- `fuse::runs::press` meets its contract: a law for each way out.
 -- Assumes nothing.
-use mathlib.Core.Path.{_≡_, refl, sym, ap, ap₂, _∙_}
+use mathlib.Core.Path.{_≡_, sym, ap, _∙_}
 use native.Mathlib.Omega.{arith}
-use Prim.Native.Nat.{ℕ, _+_, _*_, _-_, _≤_, _<_}
+use Prim.Native.Nat.{_+_, _-_}
 use Rattle.laws.specs.Views.{seek}
-use Rattle.gate.specs.Lent.{flat}
-use Rattle.gate.proofs.Stored.{length-row}
 use Rattle.work.specs.Marks.{markAt}
-use Rattle.work.proofs.Records.{put-size}
 use Rattle.fuse.specs.Layout.{touchesAt}
 use Rattle.fuse.proofs.Steps.{press-none, press-first, press-apart, press-takes}
 use borrow.Author.Needs.{needs}

@@ -1,6 +1,6 @@
 -- `fuse::runs::press_at` meets its contract: other events stay as they are.
 -- Assumes nothing.
-use mathlib.Core.Path.{_≡_, refl, sym, ap, ap₂, _∙_}
+use mathlib.Core.Path.{sym, _∙_}
 use native.Mathlib.Omega.{arith}
 use Rattle.fuse.proofs.Steps.{compress-skip}
 use borrow.Author.Needs.{needs}

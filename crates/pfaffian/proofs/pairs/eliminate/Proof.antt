@@ -1,5 +1,4 @@
 -- `pfaffian::pairs::eliminate` meets its contract, by the law `eliminated`. Assumes nothing.
-use Prim.Native.Nat.{_+_}
 use native.Mathlib.Omega.{arith}
 use borrow.Author.Needs.{needs}
 use Rattle.pfaffian.proofs.Elimination.{eliminated}

@@ -1,5 +1,4 @@
 -- `pfaffian::pairs::eliminate_row` meets its contract: each turn makes an entry by the rows k and k + 1 (`pair-row-more`). Assumes nothing.
-use mathlib.Core.Path.{_≡_}
 use Prim.Native.Nat.{_≤_, _-_, _+_}
 use native.Mathlib.Omega.{arith}
 use borrow.Author.Needs.{needs}

@@ -1,5 +1,5 @@
 -- `pfaffian::pairs::pfaffian` meets its contract: what is left from pair k on gives what the whole gives (`pair-turn`). Assumes nothing.
-use mathlib.Core.Path.{_≡_, refl, sym, ap, _∙_}
+use mathlib.Core.Path.{_≡_, sym, ap, _∙_}
 use mathlib.Core.Logic.{⊎-elim}
 use Prim.Native.Nat.{_≤_, _-_, _+_, _*_, _/_, _%_}
 use native.Mathlib.Nat.{sub-zero}

@@ -1,5 +1,4 @@
 -- `pfaffian::pairs::scale_row` meets its contract: each turn divides an entry (`scaled-more`). Assumes nothing.
-use mathlib.Core.Path.{_≡_}
 use Prim.Native.Nat.{_≤_, _-_, _+_}
 use native.Mathlib.Omega.{arith}
 use borrow.Author.Needs.{needs}

@@ -1,5 +1,5 @@
 -- `pfaffian::shots::lay_pair` meets its contract, by its test. Assumes nothing.
-use mathlib.Core.Path.{_≡_, ap, _∙_}
+use mathlib.Core.Path.{ap, _∙_}
 use borrow.Author.Needs.{needs}
 use Rattle.pfaffian.specs.Turns.{laid}
 use Rattle.pfaffian.proofs.shots.lay_pair.Statement.{statement}

@@ -1,5 +1,4 @@
 -- `pfaffian::shots::lay_row` meets its contract: each turn copies an entry across the diagonal (`laid-more`). Assumes nothing.
-use mathlib.Core.Path.{_≡_}
 use Prim.Native.Nat.{_≤_, _-_}
 use native.Mathlib.Omega.{arith}
 use borrow.Author.Needs.{needs}

@@ -1,5 +1,5 @@
 -- `pfaffian::shots::measure` meets its contract: nothing is updated (`measures-tiny`), or all that is later is (`measures-more`). Assumes nothing.
-use mathlib.Core.Path.{_≡_, refl}
+use mathlib.Core.Path.{refl}
 use Prim.Native.Nat.{_*_}
 use borrow.Author.Needs.{needs}
 use Rattle.laws.proofs.Matrix.{same}

@@ -1,7 +1,6 @@
 -- `pfaffian::shots::measure_modes` meets its contract: the matrix stands for the one that mode k finds (`stands-turn`). Assumes nothing.
-use mathlib.Core.Path.{_≡_, refl, ap, sym, _∙_}
-use Prim.Native.Nat.{_≤_, _<_, _-_, _+_, _*_}
-use native.Mathlib.Nat.{add-zero}
+use mathlib.Core.Path.{_≡_, ap, sym, _∙_}
+use Prim.Native.Nat.{_≤_, _-_, _+_, _*_}
 use native.Mathlib.Omega.{arith}
 use borrow.Author.Needs.{needs}
 use lib.ListN.{length, getD, length-set}

@@ -1,5 +1,4 @@
 -- `pfaffian::shots::qubit_bit` meets its contract, by its tests. Assumes nothing.
-use mathlib.Core.Path.{_≡_}
 use mathlib.Core.Bool.{false}
 use native.Mathlib.Omega.{arith}
 use borrow.Author.Needs.{needs}

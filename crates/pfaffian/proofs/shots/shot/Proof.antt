@@ -1,5 +1,5 @@
 -- `pfaffian::shots::shot` meets its contract: what was listed are the outcomes, and each word is made of them. Assumes nothing.
-use mathlib.Core.Path.{_≡_, _∙_}
+use mathlib.Core.Path.{_∙_}
 use Prim.Native.Nat.{_*_}
 use borrow.Author.Needs.{needs}
 use Rattle.laws.specs.Matrix.{at}

@@ -1,5 +1,5 @@
 -- `pfaffian::shots::update` meets its contract: one step after the other. Assumes nothing.
-use mathlib.Core.Path.{_≡_, ap, _∙_}
+use mathlib.Core.Path.{ap, _∙_}
 use borrow.Author.Needs.{needs}
 use Rattle.pfaffian.specs.Turns.{measured}
 use Rattle.pfaffian.proofs.shots.update.Statement.{statement}

@@ -1,11 +1,11 @@
 -- `pfaffian::shots::word` meets its contract: from the highest bit down, each turn puts a bit below those above it. Assumes nothing.
 use mathlib.Core.Path.{_≡_, refl, _∙_}
-use Prim.Native.Nat.{_≤_, _<_, _-_, _+_, _*_, _^_}
+use Prim.Native.Nat.{_≤_, _<_, _-_, _+_, _^_}
 use native.Mathlib.Nat.{le-trans}
 use native.Mathlib.Omega.{arith}
 use lib.Pow.{pow-mono}
 use borrow.Author.Needs.{needs}
-use Rattle.pfaffian.specs.Shot.{modeOf, bit, qubitBit, wordOf}
+use Rattle.pfaffian.specs.Shot.{modeOf, qubitBit, wordOf}
 use Rattle.pfaffian.proofs.Listing.{word-turn, word-below}
 use Rattle.pfaffian.proofs.shots.word.Statement.{statement}
 use Rattle.pfaffian.proofs.shots.word.Tie as tie

@@ -1,6 +1,5 @@
 -- `resolve::choose::candidate` meets its contract: the level goes by the rank.
 -- Assumes nothing.
-use mathlib.Core.Path.{_≡_, refl, sym, ap, ap₂, _∙_}
 use mathlib.Core.Logic.{⊎-elim}
 use borrow.Author.Tests.{eq-eqb, ne-eqb}
 use Rattle.resolve.specs.Choose.{levelOf, candidateOf}

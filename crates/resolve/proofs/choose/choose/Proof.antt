@@ -1,13 +1,11 @@
 -- `resolve::choose::choose` meets its contract: what is left to try from ka on gives the whole.
 -- Assumes nothing.
-use mathlib.Core.Path.{_≡_, refl, sym, ap, ap₂, _∙_}
+use mathlib.Core.Path.{_≡_, sym, ap, _∙_}
 use native.Mathlib.Omega.{arith}
-use Prim.Native.Nat.{ℕ, _+_, _*_, _-_, _≤_, _<_}
-use borrow.Author.Needs.{needs}
-use mathlib.Core.Bool.{false}
+use Prim.Native.Nat.{_+_, _-_, _≤_}
 use mathlib.Core.Logic.{⊎-elim}
 use Rattle.resolve.specs.Cuts.{cuts}
-use Rattle.resolve.specs.Choose.{noChoice, tryAll, chooseOf}
+use Rattle.resolve.specs.Choose.{tryAll, chooseOf}
 use Rattle.resolve.specs.Slots.{firstRow, secondRow}
 use Rattle.resolve.proofs.Choosing.{cutsFrom, all-start, all-end, all-tried, all-passed}
 use Rattle.resolve.proofs.choose.choose.Statement.{statement}

@@ -1,6 +1,5 @@
 -- `resolve::choose::offer` meets its contract: the two ways out are the two outcomes of the comparison.
 -- Assumes nothing.
-use mathlib.Core.Path.{_≡_, refl, sym, ap, ap₂, _∙_}
 use Rattle.resolve.specs.Choose.{offerOf}
 use borrow.Author.Needs.{needs}
 use Rattle.resolve.proofs.choose.offer.Statement.{statement}

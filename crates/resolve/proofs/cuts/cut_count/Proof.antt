@@ -1,6 +1,6 @@
 -- `resolve::cuts::cut_count` meets its contract: by the law on how many cuts are kept.
 -- Assumes nothing.
-use mathlib.Core.Path.{_≡_, refl, sym, ap, ap₂, _∙_}
+use mathlib.Core.Path.{sym}
 use native.Mathlib.Omega.{arith}
 use Rattle.resolve.proofs.Counts.{cuts-short, cuts-long}
 use borrow.Author.Needs.{needs}

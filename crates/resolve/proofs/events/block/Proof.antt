@@ -1,11 +1,10 @@
 -- `resolve::events::block` meets its contract: the search is the definition's, since the rows hold what the cuts take.
 -- Assumes nothing.
-use mathlib.Core.Path.{_≡_, refl, sym, ap, ap₂, _∙_}
+use mathlib.Core.Path.{ap₂, _∙_}
 use native.Mathlib.Omega.{arith}
-use Prim.Native.Nat.{ℕ, _+_, _*_, _-_, _≤_, _<_}
+use Prim.Native.Nat.{_*_, _-_, _≤_, _<_}
 use native.Mathlib.Nat.{mul-le-mul}
 use Rattle.gate.specs.Matrix.{kronOf, mul4Of}
-use Rattle.fuse.specs.Layout.{Space, Within}
 use Rattle.resolve.proofs.Dealing.{block-chosen, block-dealt}
 use borrow.Author.Needs.{needs}
 use Rattle.resolve.proofs.events.block.Statement.{statement}

@@ -1,10 +1,9 @@
 -- `resolve::events::deal` meets its contract: each kind of event by its law.
 -- Assumes nothing.
-use mathlib.Core.Path.{_≡_, refl, sym, ap, ap₂, _∙_}
+use mathlib.Core.Path.{sym, _∙_}
 use native.Mathlib.Omega.{arith}
-use Prim.Native.Nat.{ℕ, _+_, _*_, _-_, _≤_, _<_}
+use Prim.Native.Nat.{_-_}
 use Rattle.resolve.proofs.Dealing.{one-dealt, three-dealt, gone-dealt}
-use Rattle.work.proofs.Records.{put-size}
 use borrow.Author.Needs.{needs}
 use Rattle.resolve.proofs.events.deal.Statement.{statement}
 use Rattle.resolve.proofs.events.deal.Tie as tie

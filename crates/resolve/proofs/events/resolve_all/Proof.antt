@@ -1,11 +1,8 @@
 -- `resolve::events::resolve_all` meets its contract: what is left of the definition, from event i on, gives the whole.
 -- Assumes nothing.
-use mathlib.Core.Path.{_≡_, refl, sym, ap, ap₂, _∙_}
 use native.Mathlib.Omega.{arith}
-use Prim.Native.Nat.{ℕ, _+_, _*_, _-_, _≤_, _<_}
-use borrow.Author.Needs.{needs}
+use Prim.Native.Nat.{_-_}
 use Rattle.resolve.proofs.Dealing.{Dealing, dealing-none, dealing-more, dealing-end}
-use Rattle.fuse.specs.Layout.{Space, Within}
 use Rattle.resolve.proofs.events.resolve_all.Statement.{statement}
 use Rattle.resolve.proofs.events.resolve_all.Tie as tie
 

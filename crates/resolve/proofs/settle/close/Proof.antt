@@ -1,13 +1,12 @@
 -- `resolve::settle::close` meets its contract: its slots are emptied one after the other, then it becomes an item.
 -- Assumes nothing.
-use mathlib.Core.Path.{_≡_, refl, sym, ap, ap₂, _∙_}
+use mathlib.Core.Path.{ap, _∙_}
 use native.Mathlib.Omega.{arith}
-use Prim.Native.Nat.{ℕ, _+_, _*_, _-_, _≤_, _<_}
+use Prim.Native.Nat.{_-_, _<_}
 use lib.ListN.{length}
 use Rattle.resolve.specs.Resolve.{emptied}
 use Rattle.resolve.specs.Slots.{emptiedMarks}
-use Rattle.resolve.proofs.Records.{MarksOf}
-use Rattle.resolve.proofs.States.{emptied-marks, item-marks}
+use Rattle.resolve.proofs.States.{emptied-marks}
 use Rattle.resolve.proofs.Moves.{none-emptied, more-emptied, closed-moved}
 use borrow.Author.Needs.{needs}
 use Rattle.resolve.proofs.settle.close.Statement.{statement}

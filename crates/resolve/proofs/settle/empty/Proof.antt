@@ -1,9 +1,6 @@
 -- `resolve::settle::empty` meets its contract: the two marks are written in order.
 -- Assumes nothing.
-use mathlib.Core.Path.{_≡_, refl, sym, ap, ap₂, _∙_}
-use native.Mathlib.Omega.{arith}
 use Rattle.resolve.specs.Slots.{emptiedMarks}
-use Rattle.work.proofs.Records.{put-size}
 use borrow.Author.Needs.{needs}
 use Rattle.resolve.proofs.settle.empty.Statement.{statement}
 use Rattle.resolve.proofs.settle.empty.Tie as tie

@@ -1,8 +1,6 @@
 -- `resolve::settle::opening` meets its contract: the kind says whether there is a remainder.
 -- Assumes nothing.
-use mathlib.Core.Path.{_≡_, refl, sym, ap, ap₂, _∙_}
-use native.Mathlib.Omega.{arith}
-use borrow.Author.Tests.{lt-ltb, le-ltb, eq-eqb, ne-eqb}
+use borrow.Author.Tests.{ne-eqb}
 use Rattle.resolve.specs.Slots.{restAt}
 use borrow.Author.Needs.{needs}
 use Rattle.resolve.proofs.settle.opening.Statement.{statement}

@@ -1,12 +1,9 @@
 -- `resolve::settle::pass` meets its contract: a law for each way out.
 -- Assumes nothing.
-use mathlib.Core.Path.{_≡_, refl, sym, ap, ap₂, _∙_}
+use mathlib.Core.Path.{sym, ap₂, _∙_}
 use native.Mathlib.Omega.{arith}
-use Prim.Native.Nat.{ℕ, _+_, _*_, _-_, _≤_, _<_}
+use Prim.Native.Nat.{_-_, _<_}
 use Rattle.gate.specs.Matrix.{mul2Of}
-use Rattle.gate.specs.Lent.{flat}
-use Rattle.gate.proofs.Stored.{length-row}
-use Rattle.work.proofs.Records.{put-size}
 use Rattle.resolve.proofs.Moves.{pass-longer, pass-taken}
 use borrow.Author.Needs.{needs}
 use Rattle.resolve.proofs.settle.pass.Statement.{statement}

@@ -1,9 +1,6 @@
 -- `resolve::settle::put_block` meets its contract: the matrix is written, then the residual.
 -- Assumes nothing.
-use mathlib.Core.Path.{_≡_, refl, sym, ap, ap₂, _∙_}
-use native.Mathlib.Omega.{arith}
 use Rattle.resolve.specs.Slots.{itemFloats}
-use Rattle.gate.proofs.Stored.{length4}
 use borrow.Author.Needs.{needs}
 use Rattle.resolve.proofs.settle.put_block.Statement.{statement}
 use Rattle.resolve.proofs.settle.put_block.Tie as tie

@@ -1,9 +1,6 @@
 -- `resolve::settle::put_item` meets its contract: the three marks are written in order.
 -- Assumes nothing.
-use mathlib.Core.Path.{_≡_, refl, sym, ap, ap₂, _∙_}
-use native.Mathlib.Omega.{arith}
 use Rattle.resolve.specs.Slots.{itemMarks}
-use Rattle.work.proofs.Records.{put-size}
 use borrow.Author.Needs.{needs}
 use Rattle.resolve.proofs.settle.put_item.Statement.{statement}
 use Rattle.resolve.proofs.settle.put_item.Tie as tie

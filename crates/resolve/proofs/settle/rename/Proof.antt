@@ -1,9 +1,6 @@
 -- `resolve::settle::rename` meets its contract: both wires are read before one is written.
 -- Assumes nothing.
-use mathlib.Core.Path.{_≡_, refl, sym, ap, ap₂, _∙_}
-use native.Mathlib.Omega.{arith}
 use Rattle.resolve.specs.Slots.{tradedMarks}
-use Rattle.work.proofs.Records.{put-size}
 use borrow.Author.Needs.{needs}
 use Rattle.resolve.proofs.settle.rename.Statement.{statement}
 use Rattle.resolve.proofs.settle.rename.Tie as tie

@@ -1,12 +1,11 @@
 -- `resolve::settle::settle` meets its contract: its slots are emptied, then it becomes an item; the two ways out are with and without renaming.
 -- Assumes nothing.
-use mathlib.Core.Path.{_≡_, refl, sym, ap, ap₂, _∙_}
+use mathlib.Core.Path.{refl, ap, _∙_}
 use native.Mathlib.Omega.{arith}
-use Prim.Native.Nat.{ℕ, _+_, _*_, _-_, _≤_, _<_}
+use Prim.Native.Nat.{_-_, _<_}
 use lib.ListN.{length}
 use Rattle.resolve.specs.Resolve.{emptied}
 use Rattle.resolve.specs.Slots.{emptiedMarks}
-use Rattle.resolve.proofs.Records.{MarksOf, FloatsOf}
 use Rattle.resolve.proofs.States.{emptied-marks, item-marks, item-floats, traded-size}
 use Rattle.resolve.proofs.Moves.{none-emptied, more-emptied, settled-plain, settled-swapped}
 use borrow.Author.Needs.{needs}

@@ -1,10 +1,8 @@
 -- `resolve::slots::begin` meets its contract: the first s slots are as before the first event.
 -- Assumes nothing.
-use mathlib.Core.Path.{_≡_, refl, sym, ap, ap₂, _∙_}
+use mathlib.Core.Path.{ap, _∙_}
 use native.Mathlib.Omega.{arith}
-use Prim.Native.Nat.{ℕ, _+_, _*_, _-_, _≤_, _<_}
-use borrow.Author.Needs.{needs}
-use mathlib.Core.Path.{subst}
+use Prim.Native.Nat.{_-_, _≤_}
 use lib.ListN.{length}
 use Rattle.work.proofs.Records.{put-size}
 use Rattle.resolve.specs.Slots.{emptiedMarks}

@@ -1,9 +1,8 @@
 -- `resolve::slots::finish` meets its contract: the remainders of the first s slots are items.
 -- Assumes nothing.
-use mathlib.Core.Path.{_≡_, refl, sym, ap, ap₂, _∙_}
+use mathlib.Core.Path.{sym, _∙_}
 use native.Mathlib.Omega.{arith}
-use Prim.Native.Nat.{ℕ, _+_, _*_, _-_, _≤_, _<_}
-use borrow.Author.Needs.{needs}
+use Prim.Native.Nat.{_-_, _≤_}
 use mathlib.Core.Logic.{⊎-elim}
 use Rattle.resolve.proofs.Ends.{Finishing, finish-none, finish-item, finish-gone, finish-end}
 use Rattle.resolve.proofs.slots.finish.Statement.{statement}

@@ -1,10 +1,8 @@
 -- `resolve::whole::fuse_events` meets its contract: each pass by what it ensures.
 -- Assumes nothing.
-use mathlib.Core.Path.{_≡_, refl, sym, ap, ap₂, _∙_}
+use mathlib.Core.Path.{_∙_}
 use native.Mathlib.Omega.{arith}
-use Rattle.fuse.specs.Layout.{Space, Within}
 use Rattle.resolve.proofs.Wholes.{only-within, whole-is}
-use borrow.Author.Needs.{needs}
 use Rattle.resolve.proofs.whole.fuse_events.Statement.{statement}
 use Rattle.resolve.proofs.whole.fuse_events.Tie as tie
 
