@@ -1,6 +1,6 @@
 -- `state::signs::settle4` meets its contract: no sign is below zero, or the columns and then the rows are settled. Assumes nothing.
 use mathlib.Core.Path.{_≡_, refl, sym, ap, _∙_}
-use mathlib.Core.Bool.{Bool, _||_}
+use mathlib.Core.Bool.{_||_}
 use mathlib.Core.List.{List}
 use Prim.Native.Nat.{ℕ, _+_, _*_}
 use native.Mathlib.Nat.{add-assoc, add-zero}
@@ -8,7 +8,6 @@ use borrow.Author.Needs.{needs}
 use lib.ListN.{getD}
 use lib.Ieee.{Float, nan, lt, ofBits}
 use Rattle.laws.specs.Zeros.{+0}
-use Rattle.state.specs.Parts.{Below4}
 use Rattle.state.proofs.Settling.{none-of-four, settled-none, settled-both}
 use Rattle.state.proofs.signs.settle4.Statement.{statement}
 use Rattle.state.proofs.signs.settle4.Tie as tie

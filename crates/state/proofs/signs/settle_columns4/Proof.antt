@@ -1,10 +1,8 @@
 -- `state::signs::settle_columns4` meets its contract, a row's part a turn. Assumes nothing.
-use mathlib.Core.Path.{refl, sym, ap, _∙_}
-use Prim.Native.Nat.{_+_, _*_, _-_, _≤_}
+use mathlib.Core.Path.{refl}
+use Prim.Native.Nat.{_-_, _≤_}
 use native.Mathlib.Omega.{arith}
 use borrow.Author.Needs.{needs}
-use lib.Ieee.{lt}
-use Rattle.laws.specs.Zeros.{+0}
 use Rattle.laws.specs.Loops.{byRow}
 use Rattle.laws.proofs.Loops.{none, made}
 use Rattle.state.proofs.Settling.{ColumnsTo, columns-more, signs-kept}
