@@ -29,7 +29,7 @@ use Rattle.detect.specs.Counts.{apart, oneShare, adjacentShare, matchShare, two
 use Rattle.detect.specs.Compile.{relabelsOf, reordersOf, labelsOf, itemsOf, orderOf, modeOf, modeOfQubit, tallyOf}
 use Rattle.register.specs.Register.{RegisterTape}
 use Rattle.register.specs.Blocks.{Turn}
-use Rattle.register.specs.Follows.{Beside, PlainGate, GaussianItem, Plain}
+use Rattle.register.specs.Follows.{PlainGate, GaussianItem, Plain}
 use Rattle.register.proofs.Tapes.{tolerance, tape-plain}
 use Rattle.claim.proofs.Identity.{beside-modes, plain-order}
 
