@@ -9,7 +9,7 @@ pub mod compile;
 pub mod counts;
 pub mod growth;
 mod inputs;
-#[path = "../../tests/abi/jozkeral.rs"]
+#[path = "../../host/src/library.rs"]
 pub mod jozkeral;
 mod lent;
 mod original_side;

@@ -3,6 +3,7 @@
 //! for every tape of at most 128 qubits and 1,024 gates.
 
 use crate::library as c;
+pub use crate::library::Refused as Refusal;
 
 #[cfg(test)]
 pub mod fake;
@@ -15,13 +16,6 @@ pub const MAX_SHOTS: usize = 65_536;
 
 /// f64 places of one operation.
 const OPERATION: usize = 18;
-
-/// The question that has no for an answer (its number, 1 to 22), and the place that it names.
-#[derive(Clone, Copy, Debug, PartialEq, Eq)]
-pub struct Refusal {
-    pub number: u64,
-    pub place: u64,
-}
 
 /// How the order of the wires was chosen.
 #[derive(Clone, Copy, Debug, PartialEq, Eq)]
@@ -138,8 +132,9 @@ impl State {
         self.n
     }
 
-    fn parts(&self) -> c::Of<'_> {
-        (self.n, &self.places, &self.modes)
+    /// The state as the library is asked about it.
+    fn asked(&self) -> c::State<'_> {
+        c::State { n: self.n, slice: &self.places, modes: &self.modes }
     }
 }
 
@@ -180,58 +175,43 @@ impl Library {
     /// A label of the tape, counted from 0, as the part of the tape itself. `None` if there is none,
     /// or the tape would be refused by questions 1 to 8.
     pub fn label<'a>(&self, tape: &'a [u8], which: usize) -> Option<&'a [u8]> {
-        let [start, length] = c::label(tape, which);
-        (start > 0).then(|| &tape[start as usize..][..length as usize])
+        c::label(tape, which)
     }
 
     /// Applies an operation to a state: questions 16 and 17.
     pub fn apply(&self, state: &mut State, operation: &Operation) -> Result<(), Refusal> {
-        let number = c::apply(state.n, &mut state.places, &state.modes, &operation.places());
-        if number != 0 {
-            return Err(Refusal { number, place: 0 });
-        }
-        Ok(())
+        c::apply(state.n, &mut state.places, &state.modes, &operation.places())
     }
 
     /// The expectation of a product of two Z.
     pub fn z_correlation(&self, s: &State, i: usize, j: usize) -> Result<f64, Refusal> {
-        let mut work = query_work(s.n);
-        answer(|place, value| c::z_correlation(s.parts(), i, j, &mut work, place, value))
+        s.asked().z_correlation(i, j, &mut query_work(s.n))
     }
 }
 
 impl Engine for Library {
     fn compile(&self, tape: &[u8]) -> Result<Compiled, Refusal> {
-        let mut lent = Lent::new();
-        let number =
-            c::compile(tape, &mut lent.work, &mut lent.marks, &mut lent.ops, &mut lent.said);
-        lent.compiled(number)
+        let (mut work, mut ops) = lent();
+        let (report, answer) = c::compile(tape, &mut work, &mut ops);
+        answer.map(|()| compiled(&report, &ops))
     }
 
     fn run(&self, tape: &[u8]) -> Result<Run, Refusal> {
-        let mut lent = Lent::new();
+        let (mut work, mut ops) = lent();
         let n = tape.get(2).map_or(0, |n| usize::from(*n).min(MAX_QUBITS));
         let mut places = vec![0.0; 4 * n * n + 2 * n];
-        let number = c::run(
-            tape,
-            &mut lent.work,
-            &mut lent.marks,
-            &mut lent.ops,
-            &mut places,
-            &mut lent.said,
-        );
-        let compiled = lent.compiled(number)?;
-        let modes = compiled.report.modes.iter().map(|k| *k as u16).collect();
-        Ok(Run { compiled, state: State { n, places, modes } })
+        let (report, answer) = c::run(tape, &mut work, &mut ops, &mut places);
+        answer?;
+        let state = State { n, places, modes: report.modes()[..n].to_vec() };
+        Ok(Run { compiled: compiled(&report, &ops), state })
     }
 
     fn expectation_z(&self, s: &State, qubit: usize) -> Result<f64, Refusal> {
-        answer(|place, value| c::expectation_z(s.parts(), qubit, place, value))
+        s.asked().expectation_z(qubit)
     }
 
     fn expectation_z_product(&self, s: &State, qubits: &[usize]) -> Result<f64, Refusal> {
-        let mut work = query_work(s.n);
-        answer(|place, value| c::expectation_z_product(s.parts(), qubits, &mut work, place, value))
+        s.asked().expectation_z_product(qubits, &mut query_work(s.n))
     }
 
     fn marginal_probability(
@@ -240,22 +220,16 @@ impl Engine for Library {
         qubits: &[usize],
         bits: &[u8],
     ) -> Result<f64, Refusal> {
-        let mut work = query_work(s.n);
-        answer(|place, value| {
-            c::marginal_probability(s.parts(), qubits, bits, &mut work, place, value)
-        })
+        s.asked().marginal_probability(qubits, bits, &mut query_work(s.n))
     }
 
     fn probability(&self, s: &State, index: u128) -> Result<f64, Refusal> {
-        let mut work = query_work(s.n);
-        let (low, high) = (index as u64, (index >> 64) as u64);
-        answer(|_, value| c::probability(s.parts(), low, high, &mut work, value))
+        s.asked().probability(index as u64, (index >> 64) as u64, &mut query_work(s.n))
     }
 
     fn sample(&self, s: &State, shots: usize, draws: &[f64]) -> Result<Vec<u128>, Refusal> {
-        let mut work = query_work(s.n);
         let mut out = vec![0; 2 * shots.min(MAX_SHOTS)];
-        answer(|place, _| c::sample(s.parts(), shots, draws, &mut work, &mut out, place))?;
+        s.asked().sample(shots, draws, &mut query_work(s.n), &mut out)?;
         Ok(out.chunks(2).map(|w| u128::from(w[1]) << 64 | u128::from(w[0])).collect())
     }
 }
@@ -265,52 +239,25 @@ fn query_work(n: usize) -> Vec<f64> {
     vec![0.0; 4 * n.min(MAX_QUBITS).pow(2)]
 }
 
-/// Makes a call that returns its number and writes its place and its value.
-fn answer(call: impl FnOnce(&mut [u64], &mut [f64]) -> u64) -> Result<f64, Refusal> {
-    let (mut place, mut value) = ([0], [0.0]);
-    match call(&mut place, &mut value) {
-        0 => Ok(value[0]),
-        number => Err(Refusal { number, place: place[0] }),
-    }
+/// What is lent to compile or run a tape, with room for the largest: questions 9 and 10. A block
+/// becomes at most three operations, two rotations and an interaction.
+fn lent() -> (c::Work, Vec<f64>) {
+    let records = MAX_GATES + MAX_QUBITS;
+    (c::Work::new(MAX_GATES, MAX_QUBITS), vec![0.0; OPERATION * 3 * records])
 }
 
-/// What is lent to compile or run a tape.
-struct Lent {
-    work: Vec<f64>,
-    marks: Vec<u32>,
-    ops: Vec<f64>,
-    said: c::Said,
-}
-
-impl Lent {
-    /// Room for the largest tape: questions 9 and 10. A block becomes at most three operations, two
-    /// rotations and an interaction.
-    fn new() -> Lent {
-        let records = MAX_GATES + MAX_QUBITS;
-        Lent {
-            work: vec![0.0; 64 * records],
-            marks: vec![0; 32 * records],
-            ops: vec![0.0; OPERATION * 3 * records],
-            said: c::Said::new(),
-        }
-    }
-
-    /// What the library wrote, if the number says that it accepted.
-    fn compiled(&self, number: u64) -> Result<Compiled, Refusal> {
-        if number != 0 {
-            return Err(Refusal { number, place: self.said.place[0] });
-        }
-        let count = self.said.report[8] as usize;
-        let operations = self.ops.chunks(OPERATION).take(count).map(Operation::of).collect();
-        Ok(Compiled { report: report(&self.said), operations })
-    }
+/// What the library wrote of a tape that it accepted.
+fn compiled(written: &c::Report, ops: &[f64]) -> Compiled {
+    let count = written.words[8] as usize;
+    let operations = ops.chunks(OPERATION).take(count).map(Operation::of).collect();
+    Compiled { report: report(written), operations }
 }
 
 /// The report from the library's words and tables.
-fn report(said: &c::Said) -> Report {
-    let w = &said.report;
+fn report(written: &c::Report) -> Report {
+    let w = &written.words;
     let n = w[0] as usize;
-    let table = |k: usize| said.tables[k * MAX_QUBITS..][..n].iter().map(|x| usize::from(*x));
+    let table = |k: usize| written.tables[k * MAX_QUBITS..][..n].iter().map(|x| usize::from(*x));
     Report {
         n,
         blocks: w[1],
@@ -325,8 +272,8 @@ fn report(said: &c::Said) -> Report {
         free: w[11] != 0,
         angled: w[12] != 0,
         ordering: [Ordering::Identity, Ordering::Paths, Ordering::Greedy][w[13] as usize],
-        fraction: said.measures[0],
-        max_residual: said.measures[1],
+        fraction: written.measures[0],
+        max_residual: written.measures[1],
         order: table(0).collect(),
         starts: table(1).map(|x| x != 0).collect(),
         modes: table(2).collect(),

@@ -1,21 +1,56 @@
 //! The C symbols of libengine.a (include/jozkeral.h), each on slices in place of pointers and
-//! lengths. The only module with unsafe code. Every call here is sound for the same reason: a
-//! pointer passes with the length of its slice, the slices of one call do not overlap (Rust lends
-//! them apart), and the library keeps none of them.
+//! lengths. The only module with unsafe code; it needs no other, so that tests/abi and bench take the
+//! file as it is. Every call here is sound for the same reason: a pointer passes with the length of
+//! its slice, the slices of one call do not overlap (Rust lends them apart), and the library keeps
+//! none of them.
 
-/// Where the library writes what it says of a tape.
-pub struct Said {
-    pub place: [u64; 1],
-    pub report: [u64; 14],
+/// Why a call was refused: the question that has no for an answer (its number, 1 to 22), and the
+/// place that it names.
+#[derive(Clone, Copy, Debug, PartialEq, Eq)]
+pub struct Refused {
+    pub number: u64,
+    pub place: u64,
+}
+
+/// The report of a tape, as the header has it.
+#[derive(Clone, Debug, PartialEq)]
+pub struct Report {
+    pub words: [u64; 14],
     pub measures: [f64; 2],
     /// Order, path starts and modes, 128 places each.
     pub tables: [u16; 384],
 }
 
-impl Said {
-    pub fn new() -> Said {
-        Said { place: [0], report: [0; 14], measures: [0.0; 2], tables: [0; 384] }
+impl Report {
+    /// To be written over whole: no report has these numbers.
+    fn blank() -> Report {
+        Report { words: [u64::MAX; 14], measures: [f64::NAN; 2], tables: [u16::MAX; 384] }
     }
+
+    pub fn modes(&self) -> &[u16] {
+        &self.tables[256..]
+    }
+}
+
+/// The slices that `compile` and `run` work in.
+pub struct Work {
+    pub floats: Vec<f64>,
+    pub marks: Vec<u32>,
+}
+
+impl Work {
+    /// Enough for so many gates on n qubits: question 9.
+    pub fn new(gates: usize, n: usize) -> Work {
+        Work { floats: vec![0.0; 64 * (gates + n)], marks: vec![0; 32 * (gates + n)] }
+    }
+}
+
+/// A state to ask: n qubits, the slice, the mode table.
+#[derive(Clone, Copy)]
+pub struct State<'a> {
+    pub n: usize,
+    pub slice: &'a [f64],
+    pub modes: &'a [u16],
 }
 
 /// Calls a symbol: `r x` is the slice x to read, `w x` the slice x to write, `n x` a number.
@@ -34,93 +69,106 @@ macro_rules! call {
     (@ $symbol:ident ($($done:expr,)*)) => { unsafe { symbols::$symbol($($done),*) } };
 }
 
-/// Offset and length of a label in the tape; zeros if there is none.
-pub fn label(tape: &[u8], which: usize) -> [u64; 2] {
-    let mut found = [0; 2];
-    call!(jozkeral_label: r tape, n which, w found,);
-    found
+/// The bytes of a label, counted from 0, if there is one.
+pub fn label(tape: &[u8], which: usize) -> Option<&[u8]> {
+    let mut found = [u64::MAX; 2];
+    let number = call!(jozkeral_label: r tape, n which, w found,);
+    assert_eq!(number, 0, "no question is asked of a label");
+    let [offset, length] = found.map(|x| x as usize);
+    (offset > 0).then(|| &tape[offset..][..length])
 }
 
-pub fn compile(
-    tape: &[u8],
-    work: &mut [f64],
-    marks: &mut [u32],
-    ops: &mut [f64],
-    said: &mut Said,
-) -> u64 {
-    call!(jozkeral_compile: r tape, w work, w marks, w ops,
-        w said.place, w said.report, w said.measures, w said.tables,)
+/// The report of a tape in any case; a refusal's is zero.
+pub fn compile(tape: &[u8], work: &mut Work, ops: &mut [f64]) -> (Report, Result<(), Refused>) {
+    let (mut report, mut place) = (Report::blank(), [u64::MAX]);
+    let number = call!(jozkeral_compile: r tape, w work.floats, w work.marks, w ops,
+        w place, w report.words, w report.measures, w report.tables,);
+    (report, told(number, place, ()))
 }
 
+/// The same of a run, whose state goes to `state`.
 pub fn run(
     tape: &[u8],
-    work: &mut [f64],
-    marks: &mut [u32],
+    work: &mut Work,
     ops: &mut [f64],
     state: &mut [f64],
-    said: &mut Said,
-) -> u64 {
-    call!(jozkeral_run: r tape, w work, w marks, w ops, w state,
-        w said.place, w said.report, w said.measures, w said.tables,)
+) -> (Report, Result<(), Refused>) {
+    let (mut report, mut place) = (Report::blank(), [u64::MAX]);
+    let number = call!(jozkeral_run: r tape, w work.floats, w work.marks, w ops, w state,
+        w place, w report.words, w report.measures, w report.tables,);
+    (report, told(number, place, ()))
 }
 
-pub fn apply(n: usize, state: &mut [f64], modes: &[u16], op: &[f64]) -> u64 {
-    call!(jozkeral_apply: n n, w state, r modes, r op,)
+pub fn apply(n: usize, state: &mut [f64], modes: &[u16], op: &[f64]) -> Result<(), Refused> {
+    told(call!(jozkeral_apply: n n, w state, r modes, r op,), [0], ())
 }
 
-/// The state that a query is about: n, the slice, the mode table.
-pub type Of<'a> = (usize, &'a [f64], &'a [u16]);
+impl State<'_> {
+    pub fn expectation_z(&self, q: usize) -> Result<f64, Refused> {
+        let (mut place, mut answer) = ([u64::MAX], [f64::NAN]);
+        let number = call!(jozkeral_expectation_z: n self.n, r self.slice, r self.modes, n q,
+            w place, w answer,);
+        told(number, place, answer[0])
+    }
 
-pub fn expectation_z(s: Of, q: usize, place: &mut [u64], answer: &mut [f64]) -> u64 {
-    call!(jozkeral_expectation_z: n s.0, r s.1, r s.2, n q, w place, w answer,)
+    pub fn z_correlation(&self, i: usize, j: usize, work: &mut [f64]) -> Result<f64, Refused> {
+        let (mut place, mut answer) = ([u64::MAX], [f64::NAN]);
+        let number = call!(jozkeral_z_correlation: n self.n, r self.slice, r self.modes, n i, n j,
+            w work, w place, w answer,);
+        told(number, place, answer[0])
+    }
+
+    pub fn expectation_z_product(
+        &self,
+        qubits: &[usize],
+        work: &mut [f64],
+    ) -> Result<f64, Refused> {
+        let (mut place, mut answer) = ([u64::MAX], [f64::NAN]);
+        let number = call!(jozkeral_expectation_z_product: n self.n, r self.slice, r self.modes,
+            r qubits, w work, w place, w answer,);
+        told(number, place, answer[0])
+    }
+
+    pub fn marginal_probability(
+        &self,
+        qubits: &[usize],
+        bits: &[u8],
+        work: &mut [f64],
+    ) -> Result<f64, Refused> {
+        let (mut place, mut answer) = ([u64::MAX], [f64::NAN]);
+        let number = call!(jozkeral_marginal_probability: n self.n, r self.slice, r self.modes,
+            r qubits, r bits, w work, w place, w answer,);
+        told(number, place, answer[0])
+    }
+
+    pub fn probability(&self, low: u64, high: u64, work: &mut [f64]) -> Result<f64, Refused> {
+        let mut answer = [f64::NAN];
+        let number = call!(jozkeral_probability: n self.n, r self.slice, r self.modes,
+            n low, n high, w work, w answer,);
+        told(number, [0], answer[0])
+    }
+
+    /// Two words of `out` for each shot, the lower first.
+    pub fn sample(
+        &self,
+        shots: usize,
+        draws: &[f64],
+        work: &mut [f64],
+        out: &mut [u64],
+    ) -> Result<(), Refused> {
+        let mut place = [u64::MAX];
+        let number = call!(jozkeral_sample: n self.n, r self.slice, r self.modes, n shots,
+            r draws, w work, w out, w place,);
+        told(number, place, ())
+    }
 }
 
-pub fn z_correlation(
-    s: Of,
-    i: usize,
-    j: usize,
-    work: &mut [f64],
-    place: &mut [u64],
-    answer: &mut [f64],
-) -> u64 {
-    call!(jozkeral_z_correlation: n s.0, r s.1, r s.2, n i, n j, w work, w place, w answer,)
-}
-
-pub fn expectation_z_product(
-    s: Of,
-    qubits: &[usize],
-    work: &mut [f64],
-    place: &mut [u64],
-    answer: &mut [f64],
-) -> u64 {
-    call!(jozkeral_expectation_z_product: n s.0, r s.1, r s.2, r qubits, w work, w place, w answer,)
-}
-
-pub fn marginal_probability(
-    s: Of,
-    qubits: &[usize],
-    bits: &[u8],
-    work: &mut [f64],
-    place: &mut [u64],
-    answer: &mut [f64],
-) -> u64 {
-    call!(jozkeral_marginal_probability: n s.0, r s.1, r s.2, r qubits, r bits, w work,
-        w place, w answer,)
-}
-
-pub fn probability(s: Of, low: u64, high: u64, work: &mut [f64], answer: &mut [f64]) -> u64 {
-    call!(jozkeral_probability: n s.0, r s.1, r s.2, n low, n high, w work, w answer,)
-}
-
-pub fn sample(
-    s: Of,
-    shots: usize,
-    draws: &[f64],
-    work: &mut [f64],
-    out: &mut [u64],
-    place: &mut [u64],
-) -> u64 {
-    call!(jozkeral_sample: n s.0, r s.1, r s.2, n shots, r draws, w work, w out, w place,)
+/// What a call says: its value, unless its number is that of a question.
+fn told<T>(number: u64, [place]: [u64; 1], value: T) -> Result<T, Refused> {
+    match number {
+        0 => Ok(value),
+        number => Err(Refused { number, place }),
+    }
 }
 
 /// The symbols as the header declares them; `L` is the length of the slice before it.

@@ -6,7 +6,7 @@
 //!
 //!     abi [TAPES [SEED]]        TAPES good tapes and ten times as many damaged ones
 
-#[path = "jozkeral.rs"]
+#[path = "../../host/src/library.rs"]
 mod jozkeral;
 
 use jozkeral::{Refused, State, Work};
@@ -101,20 +101,31 @@ fn same(a: &[f64], b: &[f64]) -> bool {
     a.len() == b.len() && a.iter().zip(b).all(|(x, y)| x.to_bits() == y.to_bits())
 }
 
+/// Work that is not zero before the call.
+fn full(gates: usize, n: usize) -> Work {
+    let mut work = Work::new(gates, n);
+    fill(&mut work);
+    work
+}
+
+fn fill(work: &mut Work) {
+    work.floats.fill(1.0);
+    work.marks.fill(1);
+}
+
 /// The vacuum of n qubits: an empty tape run.
 fn vacuum(n: usize) -> Vec<f64> {
     let mut bytes = vec![0x51, 0x48, n as u8, 0, 0, 0, 0, 0, 0, 0, 0, 0];
     bytes.extend(u64::MAX.to_le_bytes());
     let mut state = vec![5.0; state_places(n)];
-    jozkeral::run(&bytes, &mut Work::new(0, n), &mut [], &mut state).1.expect("an empty tape runs");
+    jozkeral::run(&bytes, &mut full(0, n), &mut [], &mut state).1.expect("an empty tape runs");
     state
 }
 
 /// Both calls on a tape; the state and the mode table if it runs.
 fn both(t: &Tape) -> Option<(Vec<f64>, Vec<u16>)> {
     let places = 54 * (t.gates + t.n);
-    let (mut w, mut ops, mut ops2) =
-        (Work::new(t.gates, t.n), vec![7.0; places], vec![7.0; places]);
+    let (mut w, mut ops, mut ops2) = (full(t.gates, t.n), vec![7.0; places], vec![7.0; places]);
     let mut state = vec![7.0; state_places(t.n) + 3];
     let (c, compiled) = jozkeral::compile(&t.bytes, &mut w, &mut ops);
     assert_eq!(compiled, Ok(()), "a tape of good records compiles");
@@ -201,8 +212,7 @@ fn damage(r: &mut Rng, bytes: &mut Vec<u8>) {
 
 /// What both calls say of any bytes; the number of the run.
 fn damaged(bytes: &[u8], work: &mut Work) -> usize {
-    work.floats.fill(1.0);
-    work.marks.fill(1);
+    fill(work);
     let mut ops = [7.0; 18 * 8];
     let mut state = [7.0; 4 * 12 * 12];
     let (report, answer) = jozkeral::compile(bytes, work, &mut ops);
@@ -253,7 +263,7 @@ fn main() {
             ran += 1;
         }
     }
-    let mut work = Work::new(20, 20);
+    let mut work = full(20, 20);
     for _ in 0..10 * tapes {
         let any = r.below(2) == 0;
         let mut bytes = tape(&mut r, any).bytes;
