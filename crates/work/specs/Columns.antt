@@ -25,13 +25,6 @@ labColumn = 4
 abbrev pub contentColumn : ℕ
 contentColumn = 5
 
--- the gates on the two wires of a block up to the next blocks: the first's and the second's places
-abbrev pub firstTailColumn : ℕ
-firstTailColumn = 6
-
-abbrev pub secondTailColumn : ℕ
-secondTailColumn = 7
-
 -- record w, wire w: the smaller and the larger end of its path, and its place on it from the smaller end
 abbrev pub loColumn : ℕ
 loColumn = 8

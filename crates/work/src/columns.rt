@@ -14,11 +14,6 @@ pub const LAB: usize = 4;
 
 pub const CONTENT: usize = 5;
 
-// Places of the gates up to the next blocks, on a block's two slots.
-pub const FIRST_TAIL: usize = 6;
-
-pub const SECOND_TAIL: usize = 7;
-
 // Of a wire: the ends of its path, and its place there.
 pub const LO: usize = 8;
 
