@@ -1,6 +1,7 @@
 -- Laws of lists by their places: length and elements, one result more, the same results, a search downwards, a pass over all results.
 -- By induction on how many results there are; nothing is known of where they come from. Assumes nothing.
 use mathlib.Core.Path.{_≡_, refl, sym, ap, ap₂, _∙_}
+use mathlib.Core.Logic.{_⊎_, inl, inr, _≢_}
 use mathlib.Core.Bool.{Bool, true, false, cond}
 use mathlib.Core.List.{List, [], _∷_, _++_, map, reverse, reverseAux, append-assoc, append-nil}
 use Prim.Native.Nat.{ℕ, zero, suc, _+_, _-_, _≤_, _<_}
@@ -9,6 +10,7 @@ use native.Mathlib.Numerals.{add-one}
 use native.Mathlib.Omega.{arith}
 use lib.ListN.{length, getD}
 use Rattle.laws.specs.Views.{upFrom, listOf, downTo, between, until, from, seek, gap, Step, Pass}
+use Rattle.laws.proofs.Cases.{eq-or-ne}
 
 -- ---- counted up
 
@@ -145,6 +147,17 @@ module _ (q : ℕ → Bool) where
       go : (b : Bool) → seek q n + gap q n ≡ n → cond b (suc n) (seek q n) + cond b 0 (suc (gap q n)) ≡ suc n
       go true k = omega arith
       go false k = omega arith
+
+  -- where nothing is found, none passes
+  pub seek-fails : (n : ℕ) → seek q n ≡ 0 → (i : ℕ) → i < n → q i ≡ false
+  unfolding seek
+  seek-fails zero e i h = absurd (not-suc-le-zero h)
+  seek-fails (suc n) e i h = go (q n) refl e (seek-fails n) (eq-or-ne i n)
+    where
+      go : (b : Bool) → q n ≡ b → cond b (suc n) (seek q n) ≡ 0 → (seek q n ≡ 0 → (i : ℕ) → i < n → q i ≡ false) → (i ≡ n) ⊎ (i ≢ n) → q i ≡ false
+      go true e g k _ = absurd (omega arith)
+      go false e g k (inl x) = ap q x ∙ e
+      go false e g k (inr x) = k g i (omega arith)
 
   -- what is found passes
   pub seek-passes : (n i : ℕ) → seek q n ≡ suc i → q i ≡ true

@@ -11,7 +11,7 @@ use native.Mathlib.Omega.{arith}
 use lib.Dec.{eqb}
 use borrow.Author.Tests.{eq-eqb, ne-eqb, eqb-true}
 use Rattle.laws.specs.Views.{seek}
-use Rattle.laws.proofs.Views.{seek-hit, seek-miss, seek-none, seek-gap, seek-passes}
+use Rattle.laws.proofs.Views.{seek-hit, seek-miss, seek-none, seek-gap, seek-fails, seek-passes}
 use Rattle.laws.proofs.Cases.{eq-or-ne}
 use Rattle.work.specs.Marks.{markAt, putMark, Only, Records}
 use Rattle.work.specs.Columns.{headColumn, nextColumn}
@@ -44,16 +44,6 @@ module _ (q : ℕ → Bool) where
   seek-most n = omega (arith, seek-gap q n)
 
   -- none passes
-  seek-fails : (n : ℕ) → seek q n ≡ 0 → (i : ℕ) → i < n → q i ≡ false
-  unfolding seek
-  seek-fails zero e i h = absurd (not-suc-le-zero h)
-  seek-fails (suc n) e i h = by (q n) refl e (seek-fails n) (eq-or-ne i n)
-    where
-      by : (t : Bool) → q n ≡ t → cond t (suc n) (seek q n) ≡ 0 → (seek q n ≡ 0 → (i : ℕ) → i < n → q i ≡ false) → (i ≡ n) ⊎ (i ≢ n) → q i ≡ false
-      by true x e r _ = absurd (omega arith)
-      by false x e r (inl y) = ap q y ∙ x
-      by false x e r (inr y) = r e i (omega arith)
-
   seek-last : (n : ℕ) → q n ≡ true → seek q (n + 1) ≡ n + 1
   unfolding seek
   seek-last n t = rw (add-one n, t)

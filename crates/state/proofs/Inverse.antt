@@ -2,7 +2,7 @@
 -- leave none out. Assumes nothing.
 use mathlib.Core.Path.{_≡_, refl, sym, ap, _∙_}
 use mathlib.Core.Logic.{_⊎_, inl, inr, _≢_}
-use mathlib.Core.Bool.{Bool, true, false, cond, false≢true}
+use mathlib.Core.Bool.{true, false≢true}
 use mathlib.Core.List.{List}
 use Prim.Native.Nat.{ℕ, zero, suc, _-_, _≤_, _<_, zero-le, suc-le-suc}
 use native.Mathlib.Nat.{le-refl, not-suc-le-zero}
@@ -13,7 +13,7 @@ use Rattle.laws.specs.Tables.{exchanged}
 use Rattle.laws.specs.Views.{seek}
 use Rattle.laws.proofs.Cases.{lt-or-le, eq-or-ne}
 use Rattle.laws.proofs.Tables.{exchanged-first, exchanged-second, exchanged-away, exchanged-twice, exchanged-below}
-use Rattle.laws.proofs.Views.{seek-passes, seek-gap}
+use Rattle.laws.proofs.Views.{seek-fails, seek-passes, seek-gap}
 use Rattle.state.specs.Modes.{modeAt, isPermutation, qubitAt}
 use Rattle.state.proofs.Permutations.{mode-below, mode-one}
 
@@ -80,24 +80,12 @@ all-met (suc n) k f w h ne =
         by (inl e) b = absurd (ne i g (sym (exchanged-twice k n (f i)) ∙ ap (exchanged k n) e ∙ exchanged-second k n))
         by (inr e) b = not-last (exchanged k n (f i)) n b e
 
--- ---- the search
-
-seek-none : (p : ℕ → Bool) (n : ℕ) → seek p n ≡ 0 → (i : ℕ) → i < n → p i ≡ false
-unfolding seek
-seek-none p zero e i h = absurd (not-suc-le-zero h)
-seek-none p (suc n) e i h = by (p n) refl e (seek-none p n) (eq-or-ne i n)
-  where
-    by : (t : Bool) → p n ≡ t → cond t (suc n) (seek p n) ≡ 0 → (seek p n ≡ 0 → (i : ℕ) → i < n → p i ≡ false) → (i ≡ n) ⊎ (i ≢ n) → p i ≡ false
-    by true q e r _ = absurd (omega arith)
-    by false q e r (inl x) = ap p x ∙ q
-    by false q e r (inr x) = r e i (omega arith)
-
 -- ---- the qubit of a mode
 
 module _ (n : ℕ) (l : List ℕ) (p : isPermutation n l ≡ true) (k : ℕ) (h : k < n) where
   hit : (i : ℕ) → seek (λ q. eqb (modeAt l q) k) n ≡ i → 0 < i
   hit zero e = absurd (all-met n k (modeAt l) (record { below = mode-below n l p; one = mode-one n l p }) h
-      (λ q g x. false≢true (sym (seek-none (λ q. eqb (modeAt l q) k) n e q g) ∙ eq-eqb (modeAt l q) k x)))
+      (λ q g x. false≢true (sym (seek-fails (λ q. eqb (modeAt l q) k) n e q g) ∙ eq-eqb (modeAt l q) k x)))
   hit (suc i) e = suc-le-suc zero-le
 
   found : seek (λ q. eqb (modeAt l q) k) n ≡ suc (qubitAt n l k)
