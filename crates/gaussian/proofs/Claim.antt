@@ -1,7 +1,6 @@
 -- The register claim of every run. An accepted run has passed the questions, so that its state is the one that the claim for whole tapes speaks of; a
 -- plain tape has no bad blocks and no interactions, so that it passes 11 to 13. Assumes nothing.
 use mathlib.Core.Path.{_≡_, sym, ap, subst}
-use mathlib.Core.Bool.{false}
 use mathlib.Core.List.{List}
 use Prim.Native.Nat.{ℕ, _*_, _≤_}
 use lib.ListN.{length}
