@@ -1,4 +1,1 @@
 // Basis states in the engine: what operations do to them, and what every query answers. It stands in specs/ and proofs/; there is no code.
-
-// A crate has a function: this one does nothing, and nobody calls it.
-pub fn nothing() {}

@@ -11,7 +11,7 @@ use lib.Dec.{eqb, ltb}
 use lib.ListN.{length, getD}
 use lib.Ieee.{Float}
 use borrow.Author.Tests.{ne-eqb}
-use Rattle.laws.specs.Views.{upFrom, listOf, downTo}
+use Rattle.laws.specs.Views.{upFrom, listOf}
 use Rattle.laws.proofs.Cases.{eq-or-ne}
 use Rattle.laws.proofs.Views.{up-join, getD-listOf}
 use Rattle.laws.specs.Lists.{All}
@@ -22,7 +22,7 @@ use Rattle.tape.specs.Good.{GoodGate}
 use Rattle.tape.specs.Parse.{gatesOf}
 use Rattle.tape.specs.declared.header.Header.{Header}
 use Rattle.tape.specs.declared.gates.Gate.{Gate}
-use Rattle.fuse.specs.Layout.{Space, eventAt}
+use Rattle.fuse.specs.Layout.{Space}
 use Rattle.fuse.specs.Slotted.{labelledAt, Relabelled}
 use Rattle.order.specs.declared.choice.Ordering.{Ordering}
 use Rattle.order.specs.Weights.{Pair, pairOf, weighsOf, edgesOf}
@@ -36,7 +36,8 @@ use Rattle.order.proofs.Permutation.{order-permutes}
 use Rattle.resolve.specs.declared.settle.Tally.{Tally}
 use Rattle.resolve.specs.Items.{Item, newestFirst, ItemsBelow}
 use Rattle.resolve.specs.Slots.{itemAt}
-use Rattle.resolve.specs.Whole.{fuseOf, fusedAt, Whole}
+use Rattle.resolve.specs.Whole.{fusedAt, Whole}
+use Rattle.resolve.proofs.Wholes.{gates-fused}
 use Rattle.detect.specs.Counts.{countsOf}
 use Rattle.detect.specs.Report.{table}
 use Rattle.detect.specs.Records.{isItemOf, recordItem, itemsIn, modesIn, qubitMode, ColumnBelow, Held}
@@ -173,17 +174,9 @@ module _ (t : List ℕ) (h : Header) (good : (x : Gate) → List·Memᴰ x (gate
   unfolding labelsOf
   labelled-is = r .state
 
-  swaps-are : swaps ≡ labelsOf h (gatesOf t) .swaps
-  unfolding labelledAt
-  swaps-are = ap (λ s. s .swaps) labelled-is
-
-  events-are : downTo (eventAt xs₁ us₁) g ≡ labelsOf h (gatesOf t) .events
-  unfolding labelledAt
-  events-are = ap (λ s. s .events) labelled-is
-
   fused-is : fusedAt xs₂ us₂ g (h .n) tl ≡ itemsOf h (gatesOf t)
-  unfolding itemsOf
-  fused-is = w .answer ∙ ap₂ (fuseOf (relabelsOf h) (h .tolerance) (h .n)) swaps-are events-are
+  unfolding itemsOf labelsOf
+  fused-is = gates-fused (relabelsOf h) (h .tolerance) t xs xs₁ xs₂ us us₁ us₂ g (h .n) swaps tl r w
 
   items-are : itemsIn xs₂ us₂ (g + h .n) ≡ itemsOf h (gatesOf t) .items
   unfolding fusedAt

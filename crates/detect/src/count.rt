@@ -103,7 +103,7 @@ fn beside(i: u32, j: u32) -> bool
 }
 
 // v with the lower mode as its first qubit.
-pub fn oriented(i: u32, j: u32, v: Mat4) -> Mat4
+fn oriented(i: u32, j: u32, v: Mat4) -> Mat4
     ensures { λ r. ⌜ r ≡ orientedOf i j v ⌝ }
 {
     if i < j {

@@ -9,7 +9,6 @@ mod report; // the report and the answer
 mod program; // the report of an accepted tape
 mod questions; // the questions 1 to 10
 
-pub use count::Counts;
 pub use emit::emit_all;
 pub use places::OP_PLACES;
 pub use program::detect;

@@ -73,7 +73,11 @@ pub fn say_applied(a: Applied) -> Said
     ensures { λ r. ⌜ r ≡ saidOf (done a) ⌝ }
 {
     match a {
-        Applied::Done => say_refused(0, 0),
+        Applied::Done => Said {
+            number: 0,
+            place: 0,
+            value: 0.0,
+        },
         Applied::Refused(why) => say_refusal(why),
     }
 }

@@ -5,7 +5,9 @@ use mathlib.Core.Bool.{cond}
 use Rattle.gate.specs.Complex.{cx, f0, c0}
 use Rattle.gate.specs.Matrix.{mat2, row4, mat4}
 use Rattle.gate.specs.declared.matrix.Mat2.{Mat2}
+use Rattle.gate.specs.declared.matrix.Row4.{Row4}
 use Rattle.gate.specs.declared.matrix.Mat4.{Mat4}
+use Rattle.real.specs.declared.maps.Real4.{Real4}
 use Rattle.majorana.specs.declared.maps.Mapped2.{Mapped2}
 use Rattle.majorana.specs.declared.maps.Mapped4.{Mapped4}
 use Rattle.majorana.specs.declared.classify.Kind2.{Kind2}
@@ -15,13 +17,12 @@ use Rattle.majorana.specs.declared.classify.Class2.{Class2}
 unfoldable pub flat2Of : Mapped2 → Mat2
 flat2Of m = mat2 (cx (m .q .r0 .x0) (m .q .r0 .x1)) (cx (m .q .r1 .x0) (m .q .r1 .x1)) (cx (m .residual) f0) c0
 
+-- two rows of a map as one of complex numbers
+abbrev pub joinedOf : Real4 → Real4 → Row4
+joinedOf a b = row4 (cx (a .x0) (a .x1)) (cx (a .x2) (a .x3)) (cx (b .x0) (b .x1)) (cx (b .x2) (b .x3))
+
 unfoldable pub flat4Of : Mapped4 → Mat4
-flat4Of m =
-    mat4
-    (row4 (cx (m .q .r0 .x0) (m .q .r0 .x1)) (cx (m .q .r0 .x2) (m .q .r0 .x3)) (cx (m .q .r1 .x0) (m .q .r1 .x1)) (cx (m .q .r1 .x2) (m .q .r1 .x3)))
-    (row4 (cx (m .q .r2 .x0) (m .q .r2 .x1)) (cx (m .q .r2 .x2) (m .q .r2 .x3)) (cx (m .q .r3 .x0) (m .q .r3 .x1)) (cx (m .q .r3 .x2) (m .q .r3 .x3)))
-    (row4 (cx (m .residual) f0) c0 c0 c0)
-    (row4 c0 c0 c0 c0)
+flat4Of m = mat4 (joinedOf (m .q .r0) (m .q .r1)) (joinedOf (m .q .r2) (m .q .r3)) (row4 (cx (m .residual) f0) c0 c0 c0) (row4 c0 c0 c0 c0)
 
 abbrev pub kindCodeOf : Kind2 → ℕ
 kindCodeOf Diag = 0

@@ -14,7 +14,7 @@ ghost use Rattle.gate.specs.Matrix.{mul2Of, dag2Of, kronOf, mul4Of, dag4Of, mat
 ghost use Rattle.majorana.specs.Majorana.{majoranaMap1Of, majoranaMap2Of};
 ghost use Rattle.majorana.specs.Classify.{classify2Of, residualOf};
 ghost use Rattle.leaves.specs.Slices.{first2Of, first4Of, put2Of, put4Of};
-ghost use Rattle.leaves.specs.Classes.{flat2Of, flat4Of, kindCodeOf, codeOf};
+ghost use Rattle.leaves.specs.Classes.{flat2Of, joinedOf, flat4Of, kindCodeOf, codeOf};
 use gate::Complex;
 use gate::Mat2;
 use gate::Mat4;
@@ -24,6 +24,7 @@ use majorana::Class2;
 use majorana::Kind2;
 use majorana::Mapped2;
 use majorana::Mapped4;
+use real::Real4;
 
 #[no_mangle]
 pub extern "C" fn leaf_sqrt(x: f64) -> f64
@@ -180,47 +181,25 @@ fn flat2(m: Mapped2) -> Mat2
     }
 }
 
+// Two rows of a map as one of complex numbers.
+fn joined(a: Real4, b: Real4) -> Row4
+    ensures { λ r. ⌜ r ≡ joinedOf a b ⌝ }
+{
+    Row4 {
+        c0: Complex { re: a.x0, im: a.x1 },
+        c1: Complex { re: a.x2, im: a.x3 },
+        c2: Complex { re: b.x0, im: b.x1 },
+        c3: Complex { re: b.x2, im: b.x3 },
+    }
+}
+
 // The 16 entries of a map, its residual and zeros, as the 32 floats of a matrix.
 fn flat4(m: Mapped4) -> Mat4
     ensures { λ r. ⌜ r ≡ flat4Of m ⌝ }
 {
     let q = m.q;
-    let r0 = Row4 {
-        c0: Complex {
-            re: q.r0.x0,
-            im: q.r0.x1,
-        },
-        c1: Complex {
-            re: q.r0.x2,
-            im: q.r0.x3,
-        },
-        c2: Complex {
-            re: q.r1.x0,
-            im: q.r1.x1,
-        },
-        c3: Complex {
-            re: q.r1.x2,
-            im: q.r1.x3,
-        },
-    };
-    let r1 = Row4 {
-        c0: Complex {
-            re: q.r2.x0,
-            im: q.r2.x1,
-        },
-        c1: Complex {
-            re: q.r2.x2,
-            im: q.r2.x3,
-        },
-        c2: Complex {
-            re: q.r3.x0,
-            im: q.r3.x1,
-        },
-        c3: Complex {
-            re: q.r3.x2,
-            im: q.r3.x3,
-        },
-    };
+    let r0 = joined(q.r0, q.r1);
+    let r1 = joined(q.r2, q.r3);
     let r2 = Row4 {
         c0: Complex {
             re: m.residual,

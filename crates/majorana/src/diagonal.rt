@@ -92,7 +92,7 @@ pub fn unit(p: Complex) -> Complex
 }
 
 // Whether a wire with this unit gets a rotation.
-pub fn turns(u: Complex) -> bool
+fn turns(u: Complex) -> bool
     ensures { λ r. ⌜ r ≡ turnsOf u ⌝ }
 {
     if u.im == 0.0 {
@@ -102,7 +102,7 @@ pub fn turns(u: Complex) -> bool
 }
 
 // The rotation by a unit.
-pub fn rotation_map(u: Complex) -> Map2
+fn rotation_map(u: Complex) -> Map2
     ensures { λ r. ⌜ r ≡ rotationMapOf u ⌝ }
 {
     let r0 = Real2 {

@@ -31,7 +31,7 @@ const Y: Mat2 = Mat2 {
 };
 
 // A row of the map, and its part of the residual, squared.
-pub struct Fitted2 {
+struct Fitted2 {
     pub q: Real2,
     pub d: f64,
 }

@@ -14,7 +14,7 @@ use real::Map4;
 use real::Real4;
 
 // A row of the map, and its part of the residual, squared.
-pub struct Fitted4 {
+struct Fitted4 {
     pub q: Real4,
     pub d: f64,
 }

@@ -1,5 +1,2 @@
 // What the engine's float definitions give on monomial blocks, the blocks of a register tape. Definitions stand in specs/, theorems in proofs/;
 // there is no code.
-
-// A crate has a function: this one does nothing, and nobody calls it.
-pub fn nothing() {}

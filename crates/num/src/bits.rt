@@ -58,7 +58,7 @@ pub fn u16_at(s: &[u8], at: usize) -> u64
 }
 
 // The number in 4 bytes.
-pub fn u32_at(s: &[u8], at: usize) -> u64
+fn u32_at(s: &[u8], at: usize) -> u64
     requires { ⌜ at + 4 ≤ length (now s) ⌝ }
     ensures value { λ r. ⌜ r ≡ le32 (now (s .entry)) at ⌝ }
     ensures bound { λ r. ⌜ r < 2 ^ 32 ⌝ }

@@ -11,7 +11,6 @@ pub use bits::from_bits;
 pub use bits::is_nan;
 pub use bits::to_bits;
 pub use bits::u16_at;
-pub use bits::u32_at;
 pub use bits::u64_at;
 pub use order::abs;
 pub use order::clamp;

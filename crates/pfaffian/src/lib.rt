@@ -5,5 +5,4 @@ pub mod pairs; // pairs.rt: the Pfaffian
 pub mod shots; // shots.rt: one shot
 
 pub use pairs::pfaffian;
-pub use shots::Words;
 pub use shots::shot;

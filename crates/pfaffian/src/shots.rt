@@ -95,7 +95,7 @@ fn spin(one: bool) -> f64
 }
 
 // A measured mode: its outcome, whether the matrix is still fresh, and where the next draw stands.
-pub struct Measured {
+struct Measured {
     pub one: bool,
     pub fresh: bool,
     pub at: usize,

@@ -1,4 +1,1 @@
 // The bit register of demand 3 and its theory, up to the item list. It stands in specs/ (definitions) and proofs/ (theorems); there is no code.
-
-// A crate has a function: this one does nothing, and nobody calls it.
-pub fn nothing() {}

@@ -20,7 +20,7 @@ use Rattle.fuse.proofs.Listed.{listed-same}
 use Rattle.resolve.specs.declared.settle.Tally.{Tally}
 use Rattle.resolve.specs.Resolve.{resolved}
 use Rattle.resolve.specs.Slots.{stateAt, todo, fresh, AllDealt, Begun, Finished}
-use Rattle.resolve.specs.Whole.{resolvedOf, fusedOf, fuseOf, fuseGatesOf, fusedAt, Whole}
+use Rattle.resolve.specs.Whole.{resolvedOf, fusedOf, fuseOf, fusedAt, Whole}
 
 -- the newest first, turned round
 down-reverse : {A : Type 0} (e : ℕ → A) (g : ℕ) → reverse (downTo e g) ≡ upFrom e 0 g
@@ -75,8 +75,8 @@ module _ (relabel : Bool) (tol : Float) (xs xs₁ xs₂ ys : List Float) (us us�
 module _ (relabel : Bool) (tol : Float) (t : List ℕ) (xs xs₁ ys : List Float) (us us₁ vs : List ℕ) (g n r : ℕ) (a : Tally)
     (p : Relabelled relabel t xs xs₁ us us₁ g n r) (w : Whole relabel tol xs₁ ys us₁ vs g n r a) where
   -- the two together are 000's fusing of the tape's gates
-  pub gates-fused : fusedAt ys vs g n a ≡ fuseGatesOf relabel tol n (gatesOf t)
-  unfolding fuseGatesOf labelledAt
+  pub gates-fused : fusedAt ys vs g n a ≡ (let s = labelled relabel (gatesOf t) (unlabelled n) in fuseOf relabel tol n (s .swaps) (s .events))
+  unfolding labelledAt
   gates-fused = w .answer ∙ ap (λ (s : Labelled). fuseOf relabel tol n (s .swaps) (s .events)) (p .state)
 
   -- and the slots of the qubits are those that relabelling gave them

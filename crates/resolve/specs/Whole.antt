@@ -9,9 +9,7 @@ use lib.Ieee.{Float}
 use Rattle.laws.specs.Views.{listOf, downTo}
 use Rattle.work.specs.Marks.{markAt}
 use Rattle.work.specs.Columns.{labColumn, contentColumn}
-use Rattle.tape.specs.declared.gates.Gate.{Gate}
 use Rattle.fuse.specs.Events.{Event}
-use Rattle.fuse.specs.Relabel.{labelled, unlabelled}
 use Rattle.fuse.specs.Fuse.{fused}
 use Rattle.fuse.specs.Compress.{compressed}
 use Rattle.fuse.specs.Layout.{eventAt}
@@ -38,10 +36,6 @@ fusedOf n r = record { items = withRests r n; content = r .content; swaps = r .s
 -- with n qubits and so many explicit Swaps made renamings before
 unfoldable pub fuseOf : Bool → Float → ℕ → ℕ → List Event → Fused
 fuseOf relabel tol n swaps es = fusedOf n (resolvedOf relabel tol n swaps es)
-
--- from the gates of a tape, in its order
-unfoldable pub fuseGatesOf : Bool → Float → ℕ → List Gate → Fused
-fuseGatesOf relabel tol n gs = let s = labelled relabel gs (unlabelled n) in fuseOf relabel tol n (s .swaps) (s .events)
 
 -- the same, read from the lent work with g gates
 unfoldable pub fusedAt : List Float → List ℕ → ℕ → ℕ → Tally → Fused

@@ -41,7 +41,7 @@ pub struct Tally {
     pub angled: bool,
 }
 
-// What a block takes from the slot with record r: the remainder, or the identity.
+// What a block takes from slot s, whose remainder stands in record g + s: this, or the identity if there is none.
 pub fn opening(w: &[f64], u: &[u32], g: usize, s: usize) -> Mat2
     requires { ⌜ (64 * (g + s) + 64 ≤ length (now w)) × (Records (now u) (g + s + 1)) ⌝ }
     ensures { λ r. ⌜ r ≡ opened (restAt (now (w .entry)) (now (u .entry)) g s) ⌝ }

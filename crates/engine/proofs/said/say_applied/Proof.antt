@@ -1,12 +1,13 @@
 -- `engine::said::say_applied` meets its contract, by its cases. Assumes nothing.
 use borrow.Author.Needs.{needs}
+use Rattle.laws.proofs.Zeros.{zero-bits}
 use Rattle.state.specs.Answers.{done}
 use Rattle.engine.proofs.said.say_applied.Statement.{statement}
 use Rattle.engine.proofs.said.say_applied.Tie as tie
 
 returns : tie.Need-returns
 unfolding done
-returns c = rw (c .before .enum-told .given .1) (c .say-refused .ensures)
+returns c = rw (c .enum-told .given .1, zero-bits)
 
 returns-2 : tie.Need-returns-2
 unfolding done
@@ -17,7 +18,6 @@ say-applied-spec =
     tie.close
     (tie.spec
     (λ c. search needs)
-    (λ c κs. search needs)
     (λ c. search needs)
     (λ c κs. search needs)
     returns
