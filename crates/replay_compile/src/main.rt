@@ -4,7 +4,6 @@ ghost use Prim.Native.Nat.{_≤_};
 use detect::Answer;
 use detect::Report;
 use libc::STDOUT_FILENO;
-use order::Ordering;
 use stored::Tally;
 
 // Comparisons.
@@ -31,52 +30,15 @@ const TABLE: usize = 23;
 // ---- the answer
 
 fn answer_agrees(a: Answer, s: &[u8]) -> bool {
-    match a {
-        Answer::Done => stored::word(s, ANSWER) == 0 && stored::word(s, ANSWER + 1) == 0,
-        Answer::Refused { number, place } => number as u64 == stored::word(s, ANSWER)
-            && place as u64 == stored::word(s, ANSWER + 1),
-    }
+    let told = stored_report::of_answer(a);
+    stored::words_hold(&told, s, ANSWER)
 }
 
 // ---- the report
 
-fn flag(x: bool) -> u64 {
-    if x { 1 } else { 0 }
-}
-
-fn ordering(o: Ordering) -> u64 {
-    match o {
-        Ordering::Identity => 0,
-        Ordering::Paths => 1,
-        Ordering::Greedy => 2,
-    }
-}
-
-fn words_of(r: Report) -> [u64; 16] {
-    let o = r.ordering;
-    [
-        r.n as u64,
-        r.blocks as u64,
-        r.two as u64,
-        r.gaussian as u64,
-        r.bad as u64,
-        r.nonadjacent as u64,
-        r.interactions as u64,
-        r.swaps as u64,
-        r.operations as u64,
-        flag(r.conserving),
-        flag(r.exact),
-        flag(r.free),
-        flag(r.angled),
-        ordering(o),
-        num::to_bits(r.fraction),
-        num::to_bits(r.residual),
-    ]
-}
-
 fn report_agrees(r: Report, s: &[u8]) -> bool {
-    let words = words_of(r);
-    stored::words_hold(&words, s, REPORT)
+    let told = stored_report::of_report(r);
+    stored::words_hold(&told, s, REPORT)
 }
 
 fn wide(x: u16) -> u64 {
