@@ -1,8 +1,6 @@
 // The leaves as a static library, for timing and comparison from C and Rust (bench/). A matrix is 8
 // or 32 floats, row by row, real before imaginary. A slice that is too short reads as zeros, and
 // nothing is written to one.
-mod states; // states.rt: calls on a state
-
 ghost use mathlib.Core.Path.{_≡_};
 ghost use mathlib.Core.Bool.{cond};
 ghost use Prim.Native.Nat.{_<_, _≤_};
