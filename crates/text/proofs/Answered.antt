@@ -16,11 +16,11 @@ use Rattle.state.specs.Calls.{expectationZOf}
 use Rattle.evolve.specs.Evolve.{evolved}
 use Rattle.evolve.proofs.Evolving.{stored-long}
 use Rattle.claim.proofs.Tables.{table-permutes}
-use Rattle.text.specs.Bounds.{maxQubits}
+use Rattle.text.specs.Bounds.{printedQubits}
 use Rattle.text.specs.Print.{stateOf}
 use Rattle.text.proofs.Running.{states, enough-state}
 
-pub z-answered : (t : List ℕ) (h : Header) (c : Content) (q : ℕ) → parse t ≡ accepted h c → h .n ≤ maxQubits → q < h .n
+pub z-answered : (t : List ℕ) (h : Header) (c : Content) (q : ℕ) → parse t ≡ accepted h c → h .n ≤ printedQubits → q < h .n
     → expectationZOf (h .n) (stateOf h c) (reportedOf h (c .gates) .modes) q .number ≡ 0
 unfolding expectationZOf stateOk
 z-answered t h c q e few l =

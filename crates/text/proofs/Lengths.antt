@@ -10,7 +10,7 @@ use lib.Ieee.{Float, lt}
 use Rattle.laws.specs.Zeros.{+0}
 use Rattle.order.specs.declared.choice.Ordering.{Ordering}
 use Rattle.order.specs.declared.choice.Ordering.the-variants.{Identity, Paths, Greedy}
-use Rattle.text.specs.Bounds.{maxQubits, maxOrderLine, maxZLines}
+use Rattle.text.specs.Bounds.{printedQubits, maxOrderLine, maxZLines}
 use Rattle.text.specs.Ascii.{ascii, decimal}
 use Rattle.text.specs.Millionths.{million, millionths, inRange, signed, zText}
 use Rattle.text.specs.Lines.{field, nameOf, reportLine, orderLine, zLine, zLines, refusedLine}
@@ -41,7 +41,7 @@ z-line-long : (q : ℕ) (x : Float) → q < 10 → length (zLine q x) ≤ 12
 unfolding zLine ascii
 z-line-long q x h = simp length-append (omega (arith, long-most 0 q h, z-long x))
 
-pub z-lines-long : (z : ℕ → Float) (n : ℕ) → n ≤ maxQubits → length (zLines z n) ≤ maxZLines
+pub z-lines-long : (z : ℕ → Float) (n : ℕ) → n ≤ printedQubits → length (zLines z n) ≤ maxZLines
 z-lines-long z n h = omega (arith, pieces-long (λ q. zLine q (z q)) 12 n (λ q g. z-line-long q (z q) (omega arith)))
 
 -- ---- the other lines
@@ -58,7 +58,7 @@ name-long Paths = omega arith
 name-long Greedy = omega arith
 
 pub order-long : (o : Ordering) (order : List ℕ) (n : ℕ)
-    → n ≤ maxQubits → ((k : ℕ) → getD order k 0 < 10 ^ 5) → length (orderLine o order n) ≤ maxOrderLine
+    → n ≤ printedQubits → ((k : ℕ) → getD order k 0 < 10 ^ 5) → length (orderLine o order n) ≤ maxOrderLine
 unfolding orderLine ascii
 order-long o order n h few =
     simp length-append

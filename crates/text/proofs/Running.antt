@@ -18,7 +18,7 @@ use Rattle.detect.specs.Report.{reportOf, noReport}
 use Rattle.detect.specs.Compile.{floatsOf, marksOf, hasWork, reportedOf}
 use Rattle.state.specs.Bounds.{dimOf, statePlaces}
 use Rattle.gaussian.specs.Run.{verdictOf, judged, askedOf, answerOf, stateAfter}
-use Rattle.text.specs.Bounds.{maxGates, maxQubits}
+use Rattle.text.specs.Bounds.{printedGates, printedQubits}
 use Rattle.text.specs.Lines.{refusedLine}
 use Rattle.text.specs.Print.{isLarge, runOf, doneText, textOf}
 use Rattle.text.proofs.Few.{operations-few}
@@ -26,7 +26,7 @@ use Rattle.text.proofs.Few.{operations-few}
 -- ---- what is lent, for 32 gates and 8 qubits
 
 abbrev records : ℕ
-records = maxGates + maxQubits
+records = printedGates + printedQubits
 
 abbrev pub floats : ℕ
 floats = 64 * records
@@ -39,7 +39,7 @@ abbrev pub places : ℕ
 places = opPlaces * 3 * records
 
 abbrev pub states : ℕ
-states = statePlaces (dimOf maxQubits)
+states = statePlaces (dimOf printedQubits)
 
 -- ---- it suffices
 
@@ -47,11 +47,11 @@ either : (a b : Bool) → (a || b) ≡ false → (a ≡ false) × (b ≡ false)
 either true b e = absurd (subst T e tt)
 either false b e = (refl, e)
 
-sizes : (h : Header) (c : Content) → isLarge (accepted h c) ≡ false → (length (c .gates) ≤ maxGates) × (h .n ≤ maxQubits)
+sizes : (h : Header) (c : Content) → isLarge (accepted h c) ≡ false → (length (c .gates) ≤ printedGates) × (h .n ≤ printedQubits)
 unfolding isLarge
 sizes h c e =
-    let b = either (ltb maxGates (length (c .gates))) (ltb maxQubits (h .n)) e in
-    (ltb-false maxGates (length (c .gates)) (b .0), ltb-false maxQubits (h .n) (b .1))
+    let b = either (ltb printedGates (length (c .gates))) (ltb printedQubits (h .n)) e in
+    (ltb-false printedGates (length (c .gates)) (b .0), ltb-false printedQubits (h .n) (b .1))
 
 -- a verdict does not turn on the places, where there are enough
 same-verdict : (h : Header) (r : Report) (o o′ s s′ : ℕ) → opPlaces * r .operations ≤ o → opPlaces * r .operations ≤ o′
@@ -65,10 +65,10 @@ same-verdict h r o o′ s s′ ho ho′ hs hs′ =
       le-ltb s′ (statePlaces (dimOf (h .n))) hs′,
     )
 
-enough-work : (g n : ℕ) → g ≤ maxGates → n ≤ maxQubits → hasWork g n floats marks ≡ true
+enough-work : (g n : ℕ) → g ≤ printedGates → n ≤ printedQubits → hasWork g n floats marks ≡ true
 enough-work g n hg hn = rw (le-ltb floats (floatsOf g n) (omega arith), le-ltb marks (marksOf g n) (omega arith))
 
-pub enough-state : (n : ℕ) → n ≤ maxQubits → statePlaces (dimOf n) ≤ states
+pub enough-state : (n : ℕ) → n ≤ printedQubits → statePlaces (dimOf n) ≤ states
 enough-state n h =
     let d : dimOf n ≤ 16 = omega arith in
     omega (arith, mul-le-mul d d)
@@ -106,7 +106,7 @@ done-text (refused r q) e = absurd (no e)
     no e = let z : _≡_ {A = ℕ} 0 1 = cc in omega arith
 done-text (accepted h c) e = refl
 
-pub few-qubits : (p : Parsed) → isLarge p ≡ false → answerOf (runOf p) .report .n ≤ maxQubits
+pub few-qubits : (p : Parsed) → isLarge p ≡ false → answerOf (runOf p) .report .n ≤ printedQubits
 unfolding answerOf runOf noReport reportedOf reportOf
 few-qubits (refused r q) e = omega arith
 few-qubits (accepted h c) e = by (ltb 0 v)
@@ -114,6 +114,6 @@ few-qubits (accepted h c) e = by (ltb 0 v)
     v : ℕ
     v = verdictOf h (reportedOf h (c .gates)) (opPlaces * reportedOf h (c .gates) .operations) (statePlaces (dimOf (h .n)))
 
-    by : (t : Bool) → answerOf (cond t (refused v 0) (accepted h c)) .report .n ≤ maxQubits
+    by : (t : Bool) → answerOf (cond t (refused v 0) (accepted h c)) .report .n ≤ printedQubits
     by true = omega arith
     by false = sizes h c e .1

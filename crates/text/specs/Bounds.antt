@@ -5,12 +5,12 @@ use Prim.Native.Nat.{ℕ}
 abbrev pub maxTape : ℕ
 maxTape = 60000
 
--- "over 32 gates or 8 qubits"
-abbrev pub maxGates : ℕ
-maxGates = 32
+-- "over 32 gates or 8 qubits": the most that are printed
+abbrev pub printedGates : ℕ
+printedGates = 32
 
-abbrev pub maxQubits : ℕ
-maxQubits = 8
+abbrev pub printedQubits : ℕ
+printedQubits = 8
 
 -- what is written at most, in bytes: line 2, the q lines, and a whole text
 abbrev pub maxOrderLine : ℕ

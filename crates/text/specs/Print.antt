@@ -16,7 +16,7 @@ use Rattle.state.specs.State.{stored}
 use Rattle.state.specs.Calls.{expectationZOf}
 use Rattle.evolve.specs.Evolve.{evolved}
 use Rattle.gaussian.specs.Run.{askedReport}
-use Rattle.text.specs.Bounds.{maxTape, maxGates, maxQubits}
+use Rattle.text.specs.Bounds.{maxTape, printedGates, printedQubits}
 use Rattle.text.specs.Lines.{reportLine, orderLine, zLines, refusedLine, tooBigLine}
 
 -- ---- "too big"
@@ -24,7 +24,7 @@ use Rattle.text.specs.Lines.{reportLine, orderLine, zLines, refusedLine,
 -- "one that passes 1 to 8 and has over 32 gates or 8 qubits"
 unfoldable pub isLarge : Parsed → Bool
 isLarge (refused number place) = false
-isLarge (accepted h c) = ltb maxGates (length (c .gates)) || ltb maxQubits (h .n)
+isLarge (accepted h c) = ltb printedGates (length (c .gates)) || ltb printedQubits (h .n)
 
 -- "over 60,000 bytes .. so does" such a one
 unfoldable pub isTooBig : List ℕ → Bool
@@ -39,7 +39,7 @@ runOf (accepted h c) = askedReport h c (opPlaces * reportedOf h (c .gates) .oper
 
 -- the state that it leaves, in a slice with room for 8 qubits
 abbrev pub stateOf : Header → Content → List Float
-stateOf h c = stored (dimOf (h .n)) (evolved (h .n) (programOf h (c .gates))) (replicate (statePlaces (dimOf maxQubits)) +0)
+stateOf h c = stored (dimOf (h .n)) (evolved (h .n) (programOf h (c .gates))) (replicate (statePlaces (dimOf printedQubits)) +0)
 
 -- Z of qubit q: what `expectation_z` answers of a state
 abbrev pub zAt : ℕ → List Float → List ℕ → ℕ → Float

@@ -3,7 +3,7 @@ ghost use mathlib.Core.Path.{_≡_};
 ghost use Prim.Native.Nat.{_+_, _≤_};
 ghost use mathlib.Core.List.{_++_};
 ghost use lib.ListN.{length};
-ghost use Rattle.text.specs.Bounds.{maxQubits, maxOrderLine};
+ghost use Rattle.text.specs.Bounds.{printedQubits, maxOrderLine};
 ghost use Rattle.text.specs.Ascii.{decimal};
 ghost use Rattle.text.specs.Lines.{nameOf, wires, reportLine, orderLine, zLine, refusedLine, tooBigLine};
 ghost use Rattle.text.specs.Put.{Put};
@@ -74,7 +74,7 @@ fn put_wires(order: &[u16], n: usize, out: &mut [u8], at: usize) -> usize
 }
 
 pub fn put_order_line(o: Ordering, order: &[u16], n: usize, out: &mut [u8], at: usize) -> usize
-    requires { ⌜ (n ≤ maxQubits) × (n ≤ length (now order)) × (at + maxOrderLine ≤ length (now out)) ⌝ }
+    requires { ⌜ (n ≤ printedQubits) × (n ≤ length (now order)) × (at + maxOrderLine ≤ length (now out)) ⌝ }
     ensures text { λ r. ⌜ Put (orderLine o (now (order .entry)) n) at (now (out .entry)) (now (out .exit)) r ⌝ }
     ensures bound { λ r. ⌜ r ≤ at + maxOrderLine ⌝ }
 {

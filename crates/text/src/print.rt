@@ -3,7 +3,7 @@ ghost use mathlib.Core.Path.{_≡_};
 ghost use mathlib.Core.List.{_++_};
 ghost use Prim.Native.Nat.{_+_, _^_, _<_, _≤_};
 ghost use lib.ListN.{length, drop};
-ghost use Rattle.text.specs.Bounds.{maxQubits, maxOrderLine, maxZLines, maxText};
+ghost use Rattle.text.specs.Bounds.{printedQubits, maxOrderLine, maxZLines, maxText};
 ghost use Rattle.text.specs.Lines.{orderLine, zLines};
 ghost use Rattle.text.specs.Print.{isTooBig, zAt, doneText, printed};
 ghost use Rattle.text.specs.Put.{Put, Counts};
@@ -21,15 +21,15 @@ use tape::check_tape;
 
 const MAX_TAPE: usize = 60000;
 
-const MAX_GATES: usize = 32;
+const PRINTED_GATES: usize = 32;
 
-const MAX_QUBITS: usize = 8;
+const PRINTED_QUBITS: usize = 8;
 
 // No text is longer.
 pub const MAX_TEXT: usize = 256;
 
 // What is lent to the run: places for that many gates and qubits, as the questions 9, 10 and 15 count them. An item becomes at most three operations.
-const RECORDS: usize = MAX_GATES + MAX_QUBITS;
+const RECORDS: usize = PRINTED_GATES + PRINTED_QUBITS;
 
 const FLOATS: usize = 64 * RECORDS;
 
@@ -37,7 +37,7 @@ const MARKS: usize = 32 * RECORDS;
 
 const PLACES: usize = 18 * 3 * RECORDS;
 
-const STATE: usize = 4 * MAX_QUBITS * MAX_QUBITS + 2 * MAX_QUBITS;
+const STATE: usize = 4 * PRINTED_QUBITS * PRINTED_QUBITS + 2 * PRINTED_QUBITS;
 
 // Whether the tape has too many bytes or, passing 1 to 8, too many gates or qubits.
 fn is_too_big(tape: &[u8]) -> bool
@@ -57,10 +57,10 @@ fn is_too_big(tape: &[u8]) -> bool
             gates,
             labels: _,
         } => {
-            if gates > MAX_GATES {
+            if gates > PRINTED_GATES {
                 return true;
             }
-            header.n > MAX_QUBITS
+            header.n > PRINTED_QUBITS
         }
     }
 }
@@ -101,7 +101,7 @@ fn wide(x: u32) -> u64
 
 // Line 2 of a report.
 fn put_order(r: Report, out: &mut [u8], at: usize) -> usize
-    requires { ⌜ (r .n ≤ maxQubits) × (at + maxOrderLine ≤ length (now out)) ⌝ }
+    requires { ⌜ (r .n ≤ printedQubits) × (at + maxOrderLine ≤ length (now out)) ⌝ }
     ensures text { λ p. ⌜ Put (orderLine (r .ordering) (r .order) (r .n)) at (now (out .entry)) (now (out .exit)) p ⌝ }
     ensures bound { λ p. ⌜ p ≤ at + maxOrderLine ⌝ }
 {
@@ -112,7 +112,7 @@ fn put_order(r: Report, out: &mut [u8], at: usize) -> usize
 
 // The q lines of a report, from the state.
 fn put_z_all(r: Report, state: &[f64], out: &mut [u8], at: usize) -> usize
-    requires { ⌜ (r .n ≤ maxQubits) × (at + maxZLines ≤ length (now out)) ⌝ }
+    requires { ⌜ (r .n ≤ printedQubits) × (at + maxZLines ≤ length (now out)) ⌝ }
     ensures { λ p. ⌜ Put (zLines (zAt (r .n) (now (state .entry)) (r .modes)) (r .n)) at (now (out .entry)) (now (out .exit)) p ⌝ }
 {
     let modes = r.modes;
@@ -121,7 +121,7 @@ fn put_z_all(r: Report, state: &[f64], out: &mut [u8], at: usize) -> usize
 
 // The text of a run that was not refused.
 fn put_done(r: Report, state: &[f64], out: &mut [u8]) -> usize
-    requires { ⌜ (r .n ≤ maxQubits) × (maxText ≤ length (now out)) ⌝ }
+    requires { ⌜ (r .n ≤ printedQubits) × (maxText ≤ length (now out)) ⌝ }
     ensures text { λ p. ⌜ Put (doneText r (now (state .entry))) 0 (now (out .entry)) (now (out .exit)) p ⌝ }
     ensures bound { λ p. ⌜ p ≤ maxText ⌝ }
 {

@@ -10,14 +10,14 @@ use borrow.Author.Tests.{lt-ltb, le-ltb}
 use Rattle.tape.specs.Parse.{Parsed, refused, accepted, parse, checkedOf}
 use Rattle.tape.specs.declared.check.Checked.{Checked}
 use Rattle.tape.specs.declared.check.Checked.the-variants.{Good, Refused}
-use Rattle.text.specs.Bounds.{maxTape, maxGates, maxQubits}
+use Rattle.text.specs.Bounds.{maxTape, printedGates, printedQubits}
 use Rattle.text.specs.Print.{isLarge, isTooBig}
 use Rattle.text.proofs.print.is_too_big.Statement.{statement}
 use Rattle.text.proofs.print.is_too_big.Tie as tie
 
 -- the same, of what `check_tape` answers
 checkedLarge : Checked → Bool
-checkedLarge (Good h g l) = ltb maxGates g || ltb maxQubits (h .n)
+checkedLarge (Good h g l) = ltb printedGates g || ltb printedQubits (h .n)
 checkedLarge (Refused r p) = false
 
 large-is : (p : Parsed) → checkedLarge (checkedOf p) ≡ isLarge p
