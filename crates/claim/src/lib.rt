@@ -1,4 +1,1 @@
 // The register claim for whole tapes: parsing, fusing, ordering, operations and state together. It stands in specs/ (meaning) and proofs/; there is no code.
-
-// A crate has a function: this one does nothing, and nobody calls it.
-pub fn nothing() {}
