@@ -9,8 +9,9 @@ use Rattle.laws.specs.Views.{until, from, upFrom, listOf}
 use Rattle.num.specs.Order.{absOf, maxOf, minOf}
 use Rattle.num.specs.Root.{sqrtOf}
 use Rattle.gate.specs.Complex.{f0, isZeroOf}
-use Rattle.gate.specs.Matrix.{kronRowOf, kronOf, axpyOf, rowMulOf, mul4Of, conjColumnOf, dag4Of, mul2Of, dot2Of, timeProductFrom, timeProductOf}
+use Rattle.gate.specs.Matrix.{id2, kronRowOf, kronOf, axpyOf, rowMulOf, mul4Of, conjColumnOf, dag4Of, timeProductFrom, timeProductOf}
 use Rattle.gate.specs.Table.{gateCz, gateISwap}
+use Rattle.gate.specs.declared.matrix.Mat4.{Mat4}
 use Rattle.tape.specs.declared.header.Header.{Header}
 use Rattle.tape.specs.declared.gates.Gate.{Gate}
 use Rattle.tape.specs.declared.gates.Gate.the-variants.{Two}
@@ -36,7 +37,9 @@ use Rattle.majorana.specs.Majorana.{
   majoranaMap2Of,
 }
 use Rattle.majorana.specs.Diagonal.{plusThreeOf, offSquareOf, offdiag4Of, interactionOf, phaseNoneOf}
-use Rattle.majorana.specs.Classify.{diagonalOf, withoutPhaseOf, residual2Of, swap4Of, plainOf, fallbackOf, swappedOf, classify2Of}
+use Rattle.majorana.specs.Classify.{diagonalOf, withoutPhaseOf, residual2Of, swap4Of, class2, plainOf, fallbackOf, swappedOf, classify2Of}
+use Rattle.majorana.specs.declared.classify.Class2.{Class2}
+use Rattle.majorana.specs.declared.classify.Kind2.the-variants.{Interaction, Match}
 use Rattle.order.specs.declared.choice.Ordering.{Ordering}
 use Rattle.order.specs.Arrangement.{find}
 use Rattle.order.specs.Choice.{Arrangement, chooseOrderOf}
@@ -47,9 +50,9 @@ use Rattle.work.specs.Columns.{matchItem, interactionItem}
 use Rattle.resolve.specs.Items as Items
 use Rattle.resolve.specs.Items.{Item}
 use Rattle.resolve.specs.Cuts.{ones, ahead, keep, cuts, prefixOf}
-use Rattle.resolve.specs.Choose.{levelOf, candidateOf, betterOf, offerOf, tryRow, tryAll, chooseOf}
-use Rattle.resolve.specs.Resolve.{candidates, chosen, resolved, withRests, startOf}
-use Rattle.resolve.specs.Whole.{resolvedOf, fuseOf}
+use Rattle.resolve.specs.Choose.{levelOf, candidateOf, betterOf, noChoice, offerOf, tryRow, tryAll, chooseOf}
+use Rattle.resolve.specs.Resolve.{settled, candidates, chosen, resolved, withRests, startOf}
+use Rattle.resolve.specs.Whole.{Fused, fusedOf, resolvedOf, fuseOf}
 use Rattle.detect.specs.Counts.{adjacentShare, matchShare, twoShare, plusOf, countedOnto, countsOf}
 use Rattle.detect.specs.Report.{table, reportOf}
 use Rattle.detect.specs.Compile.{matchPairs, labelsOf, itemsOf, orderOf, tallyOf, reportedOf}
@@ -74,21 +77,59 @@ pub record Fusing (h : Header) (gs : List Gate) (xs : List Item) (content : List
   pub renamings : itemsOf h gs .swaps ≡ swaps
   pub angle : itemsOf h gs .angled ≡ angled
 
+-- a block that is all of a tape takes nothing before it and nothing after it
+abbrev block : Mat4 → Mat4
+block u = mul4Of (kronOf id2 id2) (mul4Of u (kronOf id2 id2))
+
+-- the blocks' classes. Each is computed here, once: no float is computed after this
+classes : (classify2Of false f0 (block gateISwap) ≡ class2 (Match f0) false gateISwap false)
+    × (classify2Of true f0 (block gateCz) ≡ class2 (Match f0) true (swap4Of gateCz) true)
+    × (classify2Of false f0 (block gateCz) ≡ class2 Interaction false gateCz true)
+unfolding largestRootOf majorana0 majorana1 majorana2 majorana3 image4Of traceRow4Of trace4Of coefficient4Of coefficients4Of lessRow4Of less4Of rest4Of
+    plusRow4Of square4Of distance4Of mapRow4Of mapDistance4Of majoranaMap2Of kronRowOf kronOf axpyOf rowMulOf mul4Of conjColumnOf dag4Of isZeroOf maxOf minOf
+    absOf sqrtOf add sub mul div neg lt le eq ofBits isNan plusThreeOf offSquareOf offdiag4Of interactionOf phaseNoneOf diagonalOf withoutPhaseOf residual2Of
+    swap4Of plainOf fallbackOf swappedOf classify2Of
+classes = (refl, refl, refl)
+
+-- the block u of class c on (a, b), alone on n slots
+abbrev alone : ℕ → ℕ → ℕ → Mat4 → Class2 → Fused
+alone n a b u c =
+    let s = offerOf 0 0 c (record { best = noChoice (mul4Of u (kronOf id2 id2)); angled = false }) in
+    fusedOf n (settled a b 1 (s .best) (s .angled) (startOf n 0))
+
+wholes : (itemsOf (header 3 2) iswap ≡ alone 3 0 2 gateISwap (class2 (Match f0) false gateISwap false))
+    × (itemsOf (header 3 0) iswap ≡ alone 3 0 2 gateISwap (class2 (Match f0) false gateISwap false))
+    × (itemsOf (header 2 1) cz ≡ alone 2 0 1 gateCz (class2 (Match f0) true (swap4Of gateCz) true))
+    × (itemsOf (header 2 0) cz ≡ alone 2 0 1 gateCz (class2 Interaction false gateCz true))
+unfolding itemsOf labelsOf labelled unlabelled upFrom fuseOf resolvedOf fused compressed resolved until from chosen candidates chooseOf tryAll tryRow cuts keep
+    ones ahead prefixOf timeProductFrom timeProductOf startOf
+wholes = (
+  ap (alone 3 0 2 gateISwap) (classes .0),
+  ap (alone 3 0 2 gateISwap) (classes .0),
+  ap (alone 2 0 1 gateCz) (classes .1),
+  ap (alone 2 0 1 gateCz) (classes .2),
+)
+
+fusing : (h : Header) (gs : List Gate) (x : Fused) → itemsOf h gs ≡ x → labelsOf h gs .lab ≡ listOf (h .n) (λ q. q)
+    → Fusing h gs (x .items) (x .content) (x .swaps) (x .angled)
+fusing h gs x e l = record {
+  items = ap (λ x. x .items) e;
+  wires = ap (λ x. x .content) e;
+  slots = l;
+  renamings = ap (λ x. x .swaps) e;
+  angle = ap (λ x. x .angled) e;
+}
+
 pub fusings : Fusing (header 3 2) iswap (Items.two matchItem 0 2 f0 gateISwap ∷ []) (0 ∷ 1 ∷ 2 ∷ []) 0 false
     × Fusing (header 3 0) iswap (Items.two matchItem 0 2 f0 gateISwap ∷ []) (0 ∷ 1 ∷ 2 ∷ []) 0 false
     × Fusing (header 2 1) cz (Items.two matchItem 0 1 f0 (swap4Of gateCz) ∷ []) (1 ∷ 0 ∷ []) 1 true
     × Fusing (header 2 0) cz (Items.two interactionItem 0 1 f0 gateCz ∷ []) (0 ∷ 1 ∷ []) 0 true
-unfolding itemsOf labelsOf labelled unlabelled upFrom fuseOf resolvedOf fused compressed resolved until from chosen candidates chooseOf tryAll tryRow offerOf
-    candidateOf levelOf betterOf cuts keep ones ahead prefixOf timeProductFrom timeProductOf withRests startOf mul2Of dot2Of largestRootOf majorana0 majorana1
-    majorana2 majorana3 image4Of traceRow4Of trace4Of coefficient4Of coefficients4Of lessRow4Of less4Of rest4Of plusRow4Of square4Of distance4Of mapRow4Of
-    mapDistance4Of majoranaMap2Of kronRowOf kronOf axpyOf rowMulOf mul4Of conjColumnOf dag4Of isZeroOf maxOf minOf absOf sqrtOf add sub mul div neg lt le eq
-    ofBits isNan plusThreeOf offSquareOf offdiag4Of interactionOf phaseNoneOf diagonalOf withoutPhaseOf residual2Of swap4Of plainOf fallbackOf swappedOf
-    classify2Of
+unfolding labelsOf labelled unlabelled upFrom offerOf candidateOf levelOf betterOf withRests startOf
 fusings = (
-  record { items = refl; wires = refl; slots = refl; renamings = refl; angle = refl },
-  record { items = refl; wires = refl; slots = refl; renamings = refl; angle = refl },
-  record { items = refl; wires = refl; slots = refl; renamings = refl; angle = refl },
-  record { items = refl; wires = refl; slots = refl; renamings = refl; angle = refl },
+  fusing (header 3 2) iswap _ (wholes .0) refl,
+  fusing (header 3 0) iswap _ (wholes .1) refl,
+  fusing (header 2 1) cz _ (wholes .2) refl,
+  fusing (header 2 0) cz _ (wholes .3) refl,
 )
 
 -- ---- the reports
