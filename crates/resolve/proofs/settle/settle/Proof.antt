@@ -1,6 +1,6 @@
 -- `resolve::settle::settle` meets its contract: its slots are emptied, then it becomes an item; the two ways out are with and without renaming.
 -- Assumes nothing.
-use mathlib.Core.Path.{refl, ap, _∙_}
+use mathlib.Core.Path.{_≡_, refl, ap, _∙_}
 use native.Mathlib.Omega.{arith}
 use Prim.Native.Nat.{_-_, _<_}
 use lib.ListN.{length}
