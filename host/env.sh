@@ -16,7 +16,7 @@ build_library() {
         return
     fi
     command -v rt >/dev/null || fail "the Rattle kit (rt) is needed to prove the engine and build its library"
-    echo "jozkeral: proving the engine and building its library; from nothing this takes a quarter of an hour" >&2
+    echo "jozkeral: proving the engine and building its library; from nothing this takes some ten minutes" >&2
     (cd "$ROOT" && rt staticlib engine) >&2 || fail "the library could not be built"
     touch "$ARCHIVE"
 }
