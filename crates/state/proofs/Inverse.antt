@@ -1,21 +1,21 @@
 -- A permutation has an inverse: every mode below n is the mode of a qubit below n, which `qubitAt` finds. By counting: n different numbers below n
--- leave none out. Assumes nothing.
+-- leave none out. And a table of n modes below n that leaves none out is a permutation. Assumes nothing.
 use mathlib.Core.Path.{_≡_, refl, sym, ap, _∙_}
 use mathlib.Core.Logic.{_⊎_, inl, inr, _≢_}
-use mathlib.Core.Bool.{true, false≢true}
+use mathlib.Core.Bool.{true, not, false≢true}
 use mathlib.Core.List.{List}
 use Prim.Native.Nat.{ℕ, zero, suc, _-_, _≤_, _<_, zero-le, suc-le-suc}
 use native.Mathlib.Nat.{le-refl, not-suc-le-zero}
 use native.Mathlib.Omega.{arith}
 use lib.Dec.{eqb}
-use borrow.Author.Tests.{eq-eqb, eqb-true}
+use borrow.Author.Tests.{eq-eqb, ne-eqb, eqb-true, lt-ltb}
 use Rattle.laws.specs.Tables.{exchanged}
 use Rattle.laws.specs.Views.{seek}
 use Rattle.laws.proofs.Cases.{lt-or-le, eq-or-ne}
 use Rattle.laws.proofs.Tables.{exchanged-first, exchanged-second, exchanged-away, exchanged-twice, exchanged-below}
 use Rattle.laws.proofs.Views.{seek-fails, seek-passes, seek-gap}
-use Rattle.state.specs.Modes.{modeAt, isPermutation, qubitAt}
-use Rattle.state.proofs.Permutations.{mode-below, mode-one}
+use Rattle.state.specs.Modes.{modeAt, allBelow, modeOk, isPermutation, qubitAt}
+use Rattle.state.proofs.Permutations.{all-of, mode-below, mode-one}
 
 -- ---- counting
 
@@ -80,22 +80,62 @@ all-met (suc n) k f w h ne =
         by (inl e) b = absurd (ne i g (sym (exchanged-twice k n (f i)) ∙ ap (exchanged k n) e ∙ exchanged-second k n))
         by (inr e) b = not-last (exchanged k n (f i)) n b e
 
--- ---- the qubit of a mode
+-- ---- the qubit of a mode that some qubit has
 
-module _ (n : ℕ) (l : List ℕ) (p : isPermutation n l ≡ true) (k : ℕ) (h : k < n) where
+module _ (n : ℕ) (l : List ℕ) (k : ℕ) (met : ((q : ℕ) → q < n → modeAt l q ≢ k) → ⊥) where
   hit : (i : ℕ) → seek (λ q. eqb (modeAt l q) k) n ≡ i → 0 < i
-  hit zero e = absurd (all-met n k (modeAt l) (record { below = mode-below n l p; one = mode-one n l p }) h
-      (λ q g x. false≢true (sym (seek-fails (λ q. eqb (modeAt l q) k) n e q g) ∙ eq-eqb (modeAt l q) k x)))
+  hit zero e = absurd (met (λ q g x. false≢true (sym (seek-fails (λ q. eqb (modeAt l q) k) n e q g) ∙ eq-eqb (modeAt l q) k x)))
   hit (suc i) e = suc-le-suc zero-le
 
   found : seek (λ q. eqb (modeAt l q) k) n ≡ suc (qubitAt n l k)
   found = omega (arith, hit (seek (λ q. eqb (modeAt l q) k) n) refl)
 
+  met-below : qubitAt n l k < n
+  met-below = omega (arith, found, seek-gap (λ q. eqb (modeAt l q) k) n)
+
+  met-mode : modeAt l (qubitAt n l k) ≡ k
+  met-mode = eqb-true (modeAt l (qubitAt n l k)) k (seek-passes (λ q. eqb (modeAt l q) k) n (qubitAt n l k) found)
+
+-- ---- in a permutation every mode has its qubit
+
+module _ (n : ℕ) (l : List ℕ) (p : isPermutation n l ≡ true) (k : ℕ) (h : k < n) where
+  met : ((q : ℕ) → q < n → modeAt l q ≢ k) → ⊥
+  met = all-met n k (modeAt l) (record { below = mode-below n l p; one = mode-one n l p }) h
+
   pub qubit-below : qubitAt n l k < n
-  qubit-below = omega (arith, found, seek-gap (λ q. eqb (modeAt l q) k) n)
+  qubit-below = met-below n l k met
 
   pub qubit-mode : modeAt l (qubitAt n l k) ≡ k
-  qubit-mode = eqb-true (modeAt l (qubitAt n l k)) k (seek-passes (λ q. eqb (modeAt l q) k) n (qubitAt n l k) found)
+  qubit-mode = met-mode n l k met
 
   pub qubit-one : (q : ℕ) → q < n → modeAt l q ≡ k → q ≡ qubitAt n l k
   qubit-one q g e = mode-one n l p q (qubitAt n l k) g qubit-below (e ∙ sym qubit-mode)
+
+-- ---- and where every mode has a qubit, it is one
+
+module _ (n : ℕ) (l : List ℕ) (met : (k : ℕ) → k < n → ((q : ℕ) → q < n → modeAt l q ≢ k) → ⊥) (below : (q : ℕ) → q < n → modeAt l q < n) where
+  back : (r : ℕ) → r < n → qubitAt n l (modeAt l r) ≡ r
+  back r h = by (eq-or-ne (qubitAt n l (modeAt l r)) r)
+    where
+      into : Into n n (qubitAt n l)
+      into = record {
+        below = λ k g. met-below n l k (met k g);
+        one = λ i j g f e. sym (met-mode n l i (met i g)) ∙ ap (modeAt l) e ∙ met-mode n l j (met j f);
+      }
+
+      by : (qubitAt n l (modeAt l r) ≡ r) ⊎ (qubitAt n l (modeAt l r) ≢ r) → qubitAt n l (modeAt l r) ≡ r
+      by (inl e) = e
+      by (inr ne) =
+          absurd (all-met n r (qubitAt n l) into h
+          (λ k g e. ne (ap (qubitAt n l) (ap (modeAt l) (sym e) ∙ met-mode n l k (met k g)) ∙ e)))
+
+  pub every-met : allBelow (modeOk n l) n ≡ true
+  every-met = all-of (modeOk n l) n
+      (λ q h. rw (lt-ltb (modeAt l q) n (below q h))
+      (all-of (λ p. not (eqb (modeAt l p) (modeAt l q))) q
+      (λ p g. ap not (ne-eqb (modeAt l p) (modeAt l q) (apart p q g h)))))
+    where
+      apart : (p q : ℕ) → p < q → q < n → modeAt l p ≢ modeAt l q
+      apart p q g h e =
+          let z : p ≡ q = sym (back p (omega arith)) ∙ ap (qubitAt n l) e ∙ back q h in
+          omega arith

@@ -7,6 +7,7 @@ pub mod DetLaws
 pub mod Operations
 pub mod Permutations
 pub mod Inverse
+mod Words
 pub mod Questions
 pub mod Pairs
 mod Examples

@@ -1,7 +1,7 @@
 // Question 16: what every state call asks first.
 
 ghost use mathlib.Core.Path.{_≡_};
-ghost use Prim.Native.Nat.{_≤_, _<_};
+ghost use Prim.Native.Nat.{_-_, _^_, _≤_, _<_};
 ghost use lib.Dec.{eqb};
 ghost use lib.ListN.{length};
 ghost use Rattle.state.specs.Bounds.{maxQubits};
@@ -10,6 +10,10 @@ ghost use Rattle.state.specs.Questions.{stateOk};
 ghost use Rattle.state.specs.Parts.{NoMarks};
 
 pub const MAX_QUBITS: usize = 128;
+
+const WORD: usize = 64; // bits of a word
+
+const ONES: u64 = 0xffff_ffff_ffff_ffff;
 
 fn wide(x: u16) -> usize
     ensures { λ r. ⌜ r ≡ x ⌝ }
@@ -50,6 +54,53 @@ fn is_identity(n: usize, modes: &[u16]) -> bool
     same
 }
 
+// A word with bit k alone.
+fn bit(k: usize) -> u64
+    requires { ⌜ k < 64 ⌝ }
+    ensures { λ r. ⌜ r ≡ 2 ^ k ⌝ }
+{
+    1u64 << k
+}
+
+// A word with the n lowest bits.
+fn ones(n: usize) -> u64
+    requires { ⌜ (0 < n) × (n ≤ 64) ⌝ }
+    ensures { λ r. ⌜ r ≡ 2 ^ n - 1 ⌝ }
+{
+    ONES >> (WORD - n)
+}
+
+// Each of the first n entries is below n, and each number below n is met: so no two are equal. The modes met are
+// bits of a word, and in turn of two, so that the processor takes two entries at once. The first is taken
+// before the pairs: then it does no harm to take it again.
+fn all_met(n: usize, modes: &[u16]) -> bool
+    requires { ⌜ (0 < n) × (n ≤ 64) ⌝ }
+    requires { ⌜ n ≤ length (now modes) ⌝ }
+    ensures { λ r. ⌜ r ≡ allBelow (modeOk n (now (modes .entry))) n ⌝ }
+{
+    let first = mode_at(modes, 0);
+    if first >= n {
+        return false;
+    }
+    let mut a = bit(first);
+    let mut b = 0u64;
+    let mut q = n % 2;
+    while q < n {
+        let k = mode_at(modes, q);
+        let l = mode_at(modes, q + 1);
+        if k >= n {
+            return false;
+        }
+        if l >= n {
+            return false;
+        }
+        a = a | bit(k);
+        b = b | bit(l);
+        q += 2;
+    }
+    a | b == ones(n)
+}
+
 // Each of the first n entries is below n, and no two are equal. The modes met so far are marked.
 fn each_once(n: usize, modes: &[u16], seen: &mut [bool]) -> bool
     requires { ⌜ n ≤ length (now modes) ⌝ }
@@ -81,6 +132,9 @@ fn is_permutation(n: usize, modes: &[u16]) -> bool
     }
     if is_identity(n, modes) {
         return true;
+    }
+    if n <= WORD {
+        return all_met(n, modes);
     }
     let mut seen = [false; MAX_QUBITS];
     each_once(n, modes, &mut seen)
