@@ -40,6 +40,12 @@ module _ {n dim : ℕ} {list : List ℕ} (w : Modes n dim list) (r : ℕ) (h : r
   pub index-below : indexOf list r < 2 * n
   index-below = omega (arith, row-mode)
 
+-- the two rows of a mode stand together
+pub index-next : (list : List ℕ) (j : ℕ) → indexOf list (2 * j) + 1 ≡ indexOf list (2 * j + 1)
+index-next list j =
+    let h : (2 * j + 1) / 2 ≡ 2 * j / 2 = omega arith in
+    rw h (omega arith)
+
 -- ---- a matrix laid into work: its rows, and the entries of a row
 
 module _ (new : Mat) (dim : ℕ) where

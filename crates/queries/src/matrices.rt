@@ -27,33 +27,38 @@ fn index(list: &[usize], r: usize) -> usize
     2 * list[r / 2] + r % 2
 }
 
-// Row r of the modes' matrix.
-fn restrict_row(state: &[f64], n: usize, list: &[usize], work: &mut [f64], dim: usize, r: usize)
+// Row r of the modes' matrix, the two columns of a mode at once.
+fn restrict_row(state: &[f64], n: usize, list: &[usize], work: &mut [f64], count: usize, r: usize)
     requires { ⌜ Ready n (now state) ⌝ }
-    requires { ⌜ Modes n dim (now list) ⌝ }
-    requires { ⌜ Inside (now work) dim r r ⌝ }
-    ensures { λ _. ⌜ now (work .exit) ≡ rowLaid dim r (restricted (covarianceOf n (now (state .entry))) (now (list .entry))) (now (work .entry)) ⌝ }
+    requires { ⌜ Modes n (2 * count) (now list) ⌝ }
+    requires { ⌜ Inside (now work) (2 * count) r r ⌝ }
+    ensures { λ _. ⌜ now (work .exit) ≡ rowLaid (2 * count) r (restricted (covarianceOf n (now (state .entry))) (now (list .entry))) (now (work .entry)) ⌝ }
 {
+    let dim = 2 * n;
+    let width = 2 * count;
     let x = index(list, r);
-    let mut c = 0;
-    while c < dim {
-        let y = index(list, c);
-        let v = covariance(state, 2 * n, x, y);
-        put(work, dim, r, c, v);
-        c += 1;
+    let mut j = 0;
+    while j < count {
+        let y = index(list, 2 * j);
+        let v = covariance(state, dim, x, y);
+        let w = covariance(state, dim, x, y + 1);
+        put(work, width, r, 2 * j, v);
+        put(work, width, r, 2 * j + 1, w);
+        j += 1;
     }
 }
 
 // The modes' matrix: their rows and columns of the covariance.
-pub fn restrict(state: &[f64], n: usize, list: &[usize], work: &mut [f64], dim: usize)
+pub fn restrict(state: &[f64], n: usize, list: &[usize], work: &mut [f64], count: usize)
     requires { ⌜ Ready n (now state) ⌝ }
-    requires { ⌜ Modes n dim (now list) ⌝ }
-    requires { ⌜ dim * dim ≤ length (now work) ⌝ }
-    ensures { λ _. ⌜ now (work .exit) ≡ matrix dim (restricted (covarianceOf n (now (state .entry))) (now (list .entry))) (now (work .entry)) ⌝ }
+    requires { ⌜ Modes n (2 * count) (now list) ⌝ }
+    requires { ⌜ 2 * count * (2 * count) ≤ length (now work) ⌝ }
+    ensures { λ _. ⌜ now (work .exit) ≡ matrix (2 * count) (restricted (covarianceOf n (now (state .entry))) (now (list .entry))) (now (work .entry)) ⌝ }
 {
+    let dim = 2 * count;
     let mut r = 0;
     while r < dim {
-        restrict_row(state, n, list, work, dim, r);
+        restrict_row(state, n, list, work, count, r);
         r += 1;
     }
 }
@@ -114,7 +119,7 @@ pub fn ask(state: &[f64], n: usize, list: &[usize], count: usize, marks: &[u8], 
         (now (list .entry))) (now (work .entry)) ⌝ }
 {
     let dim = 2 * count;
-    restrict(state, n, list, work, dim);
+    restrict(state, n, list, work, count);
     halve(work, dim * dim);
     shift_pairs(work, list, count, marks);
 }

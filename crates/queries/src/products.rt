@@ -31,7 +31,7 @@ fn product_marked(n: usize, state: &[f64], marks: &[u8], work: &mut [f64]) -> An
     if work.len() < dim * dim {
         return Answer::Refused(Refusal::SmallWork);
     }
-    restrict(state, n, &list, work, dim);
+    restrict(state, n, &list, work, count);
     Answer::Value(pfaffian_cleared(work, dim))
 }
 

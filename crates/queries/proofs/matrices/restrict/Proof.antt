@@ -8,10 +8,10 @@ use Rattle.queries.proofs.matrices.restrict.Statement.{statement}
 use Rattle.queries.proofs.matrices.restrict.Tie as tie
 
 abbrev Inv-loop : tie.InvT-loop
-Inv-loop state n list work₀ dim r₀ work r = (r ≤ dim) × RowsUpTo (restricted (covarianceOf n state) list) dim work₀ r work
+Inv-loop state n list work₀ count dim r₀ work r = (r ≤ dim) × RowsUpTo (restricted (covarianceOf n state) list) dim work₀ r work
 
 abbrev μ-loop : tie.MeasureT-loop
-μ-loop state n list work₀ dim r₀ work r = dim - r
+μ-loop state n list work₀ count dim r₀ work r = dim - r
 
 loop-holds : tie.Need-loop-holds Inv-loop μ-loop
 loop-holds c = (omega arith, rows-start _ _ _)
@@ -41,6 +41,7 @@ restrict-spec =
     (tie.spec
     Inv-loop
     μ-loop
+    (λ c. omega (arith, c .before .before .before .pre .1 .0 .fits))
     loop-holds
     restrict-row-requires
     (λ c. omega arith)
