@@ -1,6 +1,6 @@
--- Laws of the loops that exchange two rows, or two columns, an entry with an entry a turn; and of both, one after the other.
+-- Laws of the loops that exchange two rows, or two columns, an entry with an entry a turn.
 -- A turn trades two elements of the list, so that each entry is known by `getD-traded`. Assumes nothing.
-use mathlib.Core.Path.{_≡_, refl, ap, _∙_}
+use mathlib.Core.Path.{_≡_, sym, ap, _∙_}
 use mathlib.Core.Logic.{_≢_}
 use mathlib.Core.List.{List}
 use Prim.Native.Nat.{ℕ, _+_, _*_, _≤_, _<_}
@@ -8,13 +8,16 @@ use native.Mathlib.Nat.{le-refl, le-trans}
 use native.Mathlib.Omega.{arith}
 use lib.ListN.{length, getD}
 use lib.Ieee.{Float, nan}
+use borrow.Author.Tests.{le-leb}
 use Rattle.laws.specs.Slices.{traded}
 use Rattle.laws.specs.Tables.{exchanged}
-use Rattle.laws.specs.Matrix.{at, matrix, Is}
-use Rattle.laws.specs.Loops.{upTo, byRow, byCol}
-use Rattle.laws.proofs.Tables.{exchanged-away, exchanged-through, exchanged-below, exchanged-same, length-traded, getD-traded}
-use Rattle.laws.proofs.Matrix.{place-in, row-of, col-of, is-matrix, matrix-then}
+use Rattle.laws.specs.Matrix.{at}
+use Rattle.laws.specs.Steps.{rowsFrom, colsFrom}
+use Rattle.laws.specs.Loops.{byRow, byCol}
+use Rattle.laws.proofs.Tables.{exchanged-away, exchanged-through, exchanged-below, length-traded, getD-traded}
+use Rattle.laws.proofs.Matrix.{place-in, row-of, col-of}
 use Rattle.laws.proofs.Loops.{up-left, more}
+use Rattle.laws.proofs.Sweep.{Swept, masked-on}
 
 -- ---- two entries change places: (r, c) and (s, d)
 
@@ -41,19 +44,19 @@ module _ (dim r c s d : ℕ) (m : List Float) (hr : r < dim) (hc : c < dim) (hs 
       (λ e. na (row-of dim r′ c′ r c g hc e) (col-of dim r′ c′ r c g hc e))
       (λ e. nb (row-of dim r′ c′ s d g hd e) (col-of dim r′ c′ s d g hd e))
 
--- ---- two rows: the first n columns are done
+-- ---- two rows, from column k on: the columns before n are done
 
-abbrev pub RowsExchanged : ℕ → ℕ → ℕ → List Float → ℕ → List Float → Type 0
-RowsExchanged p q dim m₀ n m = Is dim m₀ (upTo byCol n (λ r c. at dim m₀ (exchanged p q r) c) (at dim m₀)) m
+abbrev pub RowsExchanged : ℕ → ℕ → ℕ → ℕ → List Float → ℕ → List Float → Type 0
+RowsExchanged p q k dim m₀ n m = Swept byCol (colsFrom k) (λ r c. at dim m₀ (exchanged p q r) c) dim m₀ n m
 
-pub rows-exchange-more : (p q dim n : ℕ) (m₀ m m′ : List Float) → p < dim → q < dim → n < dim → dim * dim ≤ length m₀
-    → RowsExchanged p q dim m₀ n m → m′ ≡ traded nan (p * dim + n) (q * dim + n) m → RowsExchanged p q dim m₀ (n + 1) m′
-rows-exchange-more p q dim n m₀ m m′ hp hq hn room w e =
+pub rows-exchange-more : (p q k dim n : ℕ) (m₀ m m′ : List Float) → p < dim → q < dim → k ≤ n → n < dim → dim * dim ≤ length m₀
+    → RowsExchanged p q k dim m₀ n m → m′ ≡ traded nan (p * dim + n) (q * dim + n) m → RowsExchanged p q k dim m₀ (n + 1) m′
+rows-exchange-more p q k dim n m₀ m m′ hp hq hk hn room w e =
     rw e
     (more byCol _ _ dim n m₀ m t w (length-traded nan (p * dim + n) (q * dim + n) m)
     (trade-after dim p n q n m hp hn hq hn room′)
     (λ r c h g ne. trade-away dim p n q n m hp hn hq hn room′ r c g (λ _ k. ne k) (λ _ k. ne k))
-    (λ r c h g k. rw k (own r h)))
+    (λ r c h g j. rw j (own r h ∙ sym (masked-on (colsFrom k) _ _ r n (le-leb k n hk)))))
   where
     t : List Float
     t = traded nan (p * dim + n) (q * dim + n) m
@@ -68,19 +71,19 @@ rows-exchange-more p q dim n m₀ m m′ hp hq hn room w e =
         ∙ w .each (exchanged p q r) n (exchanged-below p q dim r hp hq h) hn
         ∙ up-left byCol _ _ n (exchanged p q r) n (le-refl n)
 
--- ---- two columns: the first n rows are done
+-- ---- two columns, from row k on: the rows before n are done
 
-abbrev pub ColsExchanged : ℕ → ℕ → ℕ → List Float → ℕ → List Float → Type 0
-ColsExchanged p q dim m₀ n m = Is dim m₀ (upTo byRow n (λ r c. at dim m₀ r (exchanged p q c)) (at dim m₀)) m
+abbrev pub ColsExchanged : ℕ → ℕ → ℕ → ℕ → List Float → ℕ → List Float → Type 0
+ColsExchanged p q k dim m₀ n m = Swept byRow (rowsFrom k) (λ r c. at dim m₀ r (exchanged p q c)) dim m₀ n m
 
-pub cols-exchange-more : (p q dim n : ℕ) (m₀ m m′ : List Float) → p < dim → q < dim → n < dim → dim * dim ≤ length m₀
-    → ColsExchanged p q dim m₀ n m → m′ ≡ traded nan (n * dim + p) (n * dim + q) m → ColsExchanged p q dim m₀ (n + 1) m′
-cols-exchange-more p q dim n m₀ m m′ hp hq hn room w e =
+pub cols-exchange-more : (p q k dim n : ℕ) (m₀ m m′ : List Float) → p < dim → q < dim → k ≤ n → n < dim → dim * dim ≤ length m₀
+    → ColsExchanged p q k dim m₀ n m → m′ ≡ traded nan (n * dim + p) (n * dim + q) m → ColsExchanged p q k dim m₀ (n + 1) m′
+cols-exchange-more p q k dim n m₀ m m′ hp hq hk hn room w e =
     rw e
     (more byRow _ _ dim n m₀ m t w (length-traded nan (n * dim + p) (n * dim + q) m)
     (trade-after dim n p n q m hn hp hn hq room′)
     (λ r c h g ne. trade-away dim n p n q m hn hp hn hq room′ r c g (λ k _. ne k) (λ k _. ne k))
-    (λ r c h g k. rw k (own c g)))
+    (λ r c h g j. rw j (own c g ∙ sym (masked-on (rowsFrom k) _ _ n c (le-leb k n hk)))))
   where
     t : List Float
     t = traded nan (n * dim + p) (n * dim + q) m
@@ -94,16 +97,3 @@ cols-exchange-more p q dim n m₀ m m′ hp hq hn room w e =
         ∙ ap (λ j. getD m j nan) (exchanged-through p q (λ i. n * dim + i) (λ x y k. omega (arith, k)) c)
         ∙ w .each n (exchanged p q c) hn (exchanged-below p q dim c hp hq g)
         ∙ up-left byRow _ _ n n (exchanged p q c) (le-refl n)
-
--- ---- both: row and column p change places with row and column q
-
-pub both-exchanged : (p q dim : ℕ) (m m₁ m₂ : List Float) → p < dim → q < dim → dim * dim ≤ length m
-    → m₁ ≡ matrix dim (λ r c. at dim m (exchanged p q r) c) m → m₂ ≡ matrix dim (λ r c. at dim m₁ r (exchanged p q c)) m₁
-    → m₂ ≡ matrix dim (λ r c. at dim m (exchanged p q r) (exchanged p q c)) m
-both-exchanged p q dim m m₁ m₂ hp hq room e₁ e₂ =
-    matrix-then dim m m₁ m₂ _ (λ f r c. f r (exchanged p q c)) room (λ f g e r c h b. e r (exchanged p q c) h (exchanged-below p q dim c hp hq b)) e₁ e₂
-
--- no exchange at all is that of an index with itself
-pub none-exchanged : (p dim : ℕ) (m : List Float) → m ≡ matrix dim (λ r c. at dim m (exchanged p p r) (exchanged p p c)) m
-none-exchanged p dim m =
-    is-matrix dim m _ m (record { long = refl; each = λ r c h g. rw (exchanged-same p r, exchanged-same p c); after = λ i h. refl })

@@ -25,6 +25,10 @@ masked p new old r c = cond (p r c) (new r c) (old r c)
 abbrev pub inRow : ℕ → Mask → Mask
 inRow i p r c = eqb r i && p r c
 
+-- the rows from s on
+abbrev pub rowsFrom : ℕ → Mask
+rowsFrom s r c = leb s r
+
 -- the columns from s on
 abbrev pub colsFrom : ℕ → Mask
 colsFrom s r c = leb s c

@@ -63,6 +63,15 @@ pivot-nonzero k dim a h f z =
     ∙ ap (λ x. eq x +0) (sym (w .best))
     ∙ f)
 
+-- an exchange from k on stays there
+pub exchanged-from : (p q k x : ℕ) → k ≤ p → k ≤ q → k ≤ x → k ≤ exchanged p q x
+exchanged-from p q k x lp lq l = pick (eqb x p) (eqb x q)
+  where
+    pick : (s t : Bool) → k ≤ cond s q (cond t p x)
+    pick true t = lq
+    pick false true = lp
+    pick false false = l
+
 -- ---- matrices seen alike
 
 module _ (v : Float → Float) (see : Seen v) where
@@ -95,19 +104,12 @@ module _ (v : Float → Float) (see : Seen v) where
   pivoted-seen : (p q k dim : ℕ) (a b : Mat) → k ≤ p → p < dim → k ≤ q → q < dim → Alike v k dim a b → Alike v k dim (pivoted p q a) (pivoted p q b)
   pivoted-seen p q k dim a b lp hp lq hq h i j li hi lj hj = by (eqb p q)
     where
-      from : (x : ℕ) → k ≤ x → k ≤ exchanged p q x
-      from x l = pick (eqb x p) (eqb x q)
-        where
-          pick : (s t : Bool) → k ≤ cond s q (cond t p x)
-          pick true t = lq
-          pick false true = lp
-          pick false false = l
-
       by : (t : Bool)
           → v (cond t a (λ i j. a (exchanged p q i) (exchanged p q j)) i j) ≡ v (cond t b (λ i j. b (exchanged p q i) (exchanged p q j)) i j)
       by true = h i j li hi lj hj
       by false =
-          h (exchanged p q i) (exchanged p q j) (from i li) (exchanged-below p q dim i hp hq hi) (from j lj) (exchanged-below p q dim j hp hq hj)
+          h (exchanged p q i) (exchanged p q j) (exchanged-from p q k i lp lq li) (exchanged-below p q dim i hp hq hi) (exchanged-from p q k j lp lq lj)
+          (exchanged-below p q dim j hp hq hj)
 
   less-seen : (k dim : ℕ) (a b : Mat) → k + 2 ≤ dim → Alike v k dim a b → nz (a k (suc k)) ≢ +0 → Alike v (suc (suc k)) dim (less k a) (less k b)
   less-seen k dim a b room h n i j li hi lj hj =

@@ -14,8 +14,8 @@ use Rattle.pfaffian.specs.Shot.{drawn, next, shot}
 -- ---- the Pfaffian
 
 -- row and column p change places with row and column q
-abbrev pub brought : ℕ → ℕ → ℕ → List Float → List Float
-brought dim p q m = matrix dim (λ r c. at dim m (exchanged p q r) (exchanged p q c)) m
+abbrev pub brought : ℕ → ℕ → Mat → Mat
+brought p q f r c = f (exchanged p q r) (exchanged p q c)
 
 -- row k from column k + 2 on, divided by x
 abbrev pub scaled : ℕ → ℕ → Float → List Float → List Float

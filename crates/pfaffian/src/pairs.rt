@@ -8,6 +8,7 @@ ghost use lib.Ieee.{nan};
 ghost use Rattle.laws.specs.Slices.{traded};
 ghost use Rattle.laws.specs.Tables.{exchanged};
 ghost use Rattle.laws.specs.Matrix.{at, matrix, Inside, Holds};
+ghost use Rattle.laws.specs.Steps.{masked, rowsFrom, colsFrom};
 ghost use Rattle.pfaffian.specs.Work.{Kept};
 ghost use Rattle.pfaffian.specs.Pfaffian.{pivotOf, less, pfaffianOf};
 ghost use Rattle.pfaffian.specs.Turns.{brought, scaled, sweptRow, swept, Corner};
@@ -53,38 +54,44 @@ fn exchange(a: &mut [f64], dim: usize, r: usize, c: usize, s: usize, d: usize)
     put(a, dim, s, d, x);
 }
 
-// The rows p and q change places.
-fn exchange_rows(a: &mut [f64], dim: usize, p: usize, q: usize)
+// From column k on the rows p and q change places.
+fn exchange_rows(a: &mut [f64], dim: usize, p: usize, q: usize, k: usize)
     requires { ⌜ Inside (now a) dim p q ⌝ }
-    ensures { λ _. ⌜ now (a .exit) ≡ matrix dim (λ r c. at dim (now (a .entry)) (exchanged p q r) c) (now (a .entry)) ⌝ }
+    requires { ⌜ k ≤ dim ⌝ }
+    ensures { λ _. ⌜ now (a .exit) ≡ matrix dim (masked (colsFrom k) (λ r c. at dim (now (a .entry)) (exchanged p q r) c) (at dim (now (a .entry))))
+        (now (a .entry)) ⌝ }
 {
-    let mut c = 0;
+    let mut c = k;
     while c < dim {
         exchange(a, dim, p, c, q, c);
         c += 1;
     }
 }
 
-// The columns p and q change places.
-fn exchange_columns(a: &mut [f64], dim: usize, p: usize, q: usize)
+// From row k on the columns p and q change places.
+fn exchange_columns(a: &mut [f64], dim: usize, p: usize, q: usize, k: usize)
     requires { ⌜ Inside (now a) dim p q ⌝ }
-    ensures { λ _. ⌜ now (a .exit) ≡ matrix dim (λ r c. at dim (now (a .entry)) r (exchanged p q c)) (now (a .entry)) ⌝ }
+    requires { ⌜ k ≤ dim ⌝ }
+    ensures { λ _. ⌜ now (a .exit) ≡ matrix dim (masked (rowsFrom k) (λ r c. at dim (now (a .entry)) r (exchanged p q c)) (at dim (now (a .entry))))
+        (now (a .entry)) ⌝ }
 {
-    let mut r = 0;
+    let mut r = k;
     while r < dim {
         exchange(a, dim, r, p, r, q);
         r += 1;
     }
 }
 
-// Row and column p change places with row and column q.
-fn bring(a: &mut [f64], dim: usize, p: usize, q: usize)
-    requires { ⌜ Inside (now a) dim p q ⌝ }
-    ensures { λ _. ⌜ now (a .exit) ≡ brought dim p q (now (a .entry)) ⌝ }
+// Row and column p change places with row and column k + 1. What stands before row or column k is not read again, and
+// is left.
+fn bring(a: &mut [f64], dim: usize, p: usize, k: usize)
+    requires { ⌜ Inside (now a) dim p (k + 1) ⌝ }
+    requires { ⌜ k ≤ p ⌝ }
+    ensures { λ _. ⌜ Corner dim k (now (a .entry)) (brought p (k + 1) (at dim (now (a .entry)))) (now (a .exit)) ⌝ }
 {
-    if p != q {
-        exchange_rows(a, dim, p, q);
-        exchange_columns(a, dim, p, q);
+    if p != k + 1 {
+        exchange_rows(a, dim, p, k + 1, k);
+        exchange_columns(a, dim, p, k + 1, k);
     }
 }
 
@@ -161,7 +168,7 @@ pub fn pfaffian(a: &mut [f64], dim: usize) -> f64
         if piv != k + 1 {
             pf = -pf;
         }
-        bring(a, dim, piv, k + 1);
+        bring(a, dim, piv, k);
         pf = pf * entry(a, dim, k, k + 1);
         eliminate(a, dim, k);
         k += 2;

@@ -1,31 +1,33 @@
 -- `pfaffian::pairs::exchange_columns` meets its contract: each turn trades two entries (`cols-exchange-more`). Assumes nothing.
-use mathlib.Core.Path.{refl}
 use Prim.Native.Nat.{_≤_, _-_}
 use native.Mathlib.Omega.{arith}
 use borrow.Author.Needs.{needs}
+use borrow.Author.Tests.{lt-leb}
+use Rattle.laws.specs.Steps.{rowsFrom}
 use Rattle.laws.specs.Loops.{byRow}
-use Rattle.laws.proofs.Loops.{none, made}
+use Rattle.laws.proofs.Loops.{made}
+use Rattle.laws.proofs.Sweep.{sweep-start}
 use Rattle.laws.proofs.Exchange.{ColsExchanged, cols-exchange-more}
 use Rattle.pfaffian.proofs.pairs.exchange_columns.Statement.{statement}
 use Rattle.pfaffian.proofs.pairs.exchange_columns.Tie as tie
 
 abbrev Inv-loop : tie.InvT-loop
-Inv-loop a₀ dim p q n₀ a n = (n ≤ dim) × ColsExchanged p q dim a₀ n a
+Inv-loop a₀ dim p q k n₀ a n = ((k ≤ n) × (n ≤ dim)) × ColsExchanged p q k dim a₀ n a
 
 abbrev μ-loop : tie.MeasureT-loop
-μ-loop a₀ dim p q n₀ a n = dim - n
+μ-loop a₀ dim p q k n₀ a n = dim - n
 
 loop-holds : tie.Need-loop-holds Inv-loop μ-loop
-loop-holds c = (search needs, none _ _ _ _ _ (λ r c h g. refl))
+loop-holds c = (omega (arith, c .before .pre), sweep-start byRow (rowsFrom (c .before .args .k)) _ _ _ _ (λ r c h. lt-leb _ _ h))
 
 loop-again : tie.Need-loop-again Inv-loop μ-loop
 loop-again c =
     let t = c .before .before .before .before in
     let l = t .before .loop in
     let e = t .before .before .before in (
-      omega arith,
-      cols-exchange-more (e .args .p) (e .args .q) (e .args .dim) (l .r) (e .args .a .now) (l .a) _ (e .pre .row) (e .pre .col) (t .loop-test .taken)
-          (e .pre .room) (l .inv .1) (c .before .before .exchange .ensures),
+      omega (arith, l .inv .0, t .loop-test .taken),
+      cols-exchange-more (e .args .p) (e .args .q) (e .args .k) (e .args .dim) (l .r) (e .args .a .now) (l .a) _ (e .pre .0 .row) (e .pre .0 .col)
+          (l .inv .0 .0) (t .loop-test .taken) (e .pre .0 .room) (l .inv .1) (c .before .before .exchange .ensures),
     )
 
 same-length : tie.Need-same-length Inv-loop μ-loop

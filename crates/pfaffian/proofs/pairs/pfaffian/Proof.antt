@@ -1,18 +1,18 @@
 -- `pfaffian::pairs::pfaffian` meets its contract: what is left from pair k on gives what the whole gives (`pair-turn`). Assumes nothing.
 use mathlib.Core.Path.{_≡_, sym, ap, _∙_}
 use mathlib.Core.Logic.{⊎-elim}
-use Prim.Native.Nat.{_≤_, _-_, _+_, _*_, _/_, _%_}
+use Prim.Native.Nat.{_≤_, _-_, _+_, _/_, _%_}
 use native.Mathlib.Nat.{sub-zero}
 use native.Mathlib.Omega.{arith}
 use borrow.Author.Needs.{needs}
 use borrow.Author.Tests.{eq-eqb, ne-eqb}
-use lib.ListN.{length}
 use Rattle.laws.specs.Zeros.{+1}
 use Rattle.laws.specs.Matrix.{at}
 use Rattle.laws.proofs.Matrix.{same}
 use Rattle.laws.proofs.Zeros.{zero-bits, one-bits}
 use Rattle.pfaffian.specs.Work.{Kept}
-use Rattle.pfaffian.specs.Pfaffian.{pf, pfaffianOf}
+use Rattle.pfaffian.specs.Pfaffian.{pivotOf, pf, pfaffianOf}
+use Rattle.pfaffian.proofs.Congruent.{pivot-found}
 use Rattle.pfaffian.proofs.Pairing.{pair-turn, pair-stop, pair-done, pair-kept}
 use Rattle.pfaffian.proofs.pairs.pfaffian.Statement.{statement}
 use Rattle.pfaffian.proofs.pairs.pfaffian.Tie as tie
@@ -35,10 +35,6 @@ returns c = (rw (eq-eqb _ _ (c .if1 .taken)) zero-bits, same _ _)
 loop-holds : tie.Need-loop-holds Inv-loop μ-loop
 loop-holds c = (omega arith, same _ _, rw (sub-zero, one-bits))
 
--- the matrix still has its room
-room : (c : tie.In-loop Inv-loop μ-loop) → let e = c .before .before .before .before in e .args .dim * e .args .dim ≤ length (c .before .loop .a)
-room c = rw (c .before .loop .inv .1 .long) (c .before .before .before .before .pre)
-
 same-length : tie.Need-same-length Inv-loop μ-loop
 same-length c = c .before .before .before .before .before .loop .inv .1 .long
 
@@ -55,6 +51,18 @@ returns-2 c =
       l .inv .1,
     )
 
+-- the pivot stands after column k
+bring-requires : tie.Need-bring-requires Inv-loop μ-loop
+bring-requires c κs =
+    let v = c .before .before .before .before in
+    let t = v .before .before in
+    let l = t .before .loop in
+    let e = t .before .before .before .before in
+    let two : l .k + 2 ≤ e .args .dim = omega (arith, t .loop-test .taken, l .inv .0) in
+    let from = pivot-found (at (e .args .dim) (l .a) (l .k)) (l .k) (e .args .dim) two .from in
+    let p : v .pivot .result .piv ≡ pivotOf (at (e .args .dim) (l .a) (l .k)) (l .k) (e .args .dim) .1 = ap (λ s. s .1) (v .pivot .ensures .0) in
+    (search needs, omega (arith, from, p))
+
 loop-again : tie.Need-loop-again Inv-loop μ-loop
 loop-again c =
     let o = c .before .before .before .before .before .before .before .before .before .before in
@@ -65,9 +73,9 @@ loop-again c =
     let brings = c .before .before .before .before .before .before .before .before .bring in
     let lessens = c .before .before .eliminate in (
       omega (arith, t .loop-test .taken, l .inv .0),
-      pair-kept (e .args .dim) (l .k) _ _ (l .a) (brings .last .0) (lessens .last .0) _ (room t) (brings .ensures) (lessens .ensures) (l .inv .1),
+      pair-kept (e .args .dim) (l .k) _ (l .a) (brings .last .0) (lessens .last .0) _ _ (brings .ensures) (lessens .ensures) (l .inv .1),
       pair-turn (e .args .dim) (l .k) (l .a) (l .pf) (t .loop-test .taken) (l .inv .0 .1) _ _ (brings .last .0) (lessens .last .0)
-          (c .before .before .before .before .entry .result) (o .if3 .pf) (room t) (ap (λ s. s .0) found) (ap (λ s. s .1) found) (brings .ensures)
+          (c .before .before .before .before .entry .result) (o .if3 .pf) (ap (λ s. s .0) found) (ap (λ s. s .1) found) (brings .ensures)
           (lessens .ensures) (o .before .if2 .left) (c .before .before .before .before .entry .ensures)
           (⊎-elim (λ w. w .1 ∙ rw (ne-eqb _ _ (w .0 .taken))) (λ w. w .1 ∙ rw (eq-eqb _ _ (w .0 .left))) (o .if3 .came))
           ∙ l .inv .2,
@@ -100,8 +108,7 @@ pfaffian-spec =
     same-length
     returns-2
     (λ c. omega arith)
-    (λ c. omega arith)
-    (λ c κs. search needs)
+    bring-requires
     (λ c. omega arith)
     (λ c κs. search needs)
     (λ c κs. search needs)

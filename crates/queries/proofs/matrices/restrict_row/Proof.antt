@@ -2,7 +2,6 @@
 use mathlib.Core.Path.{_≡_, ap, subst, _∙_}
 use Prim.Native.Nat.{_+_, _*_, _-_, _≤_, _<_}
 use native.Mathlib.Omega.{arith}
-use borrow.Author.Needs.{needs}
 use Rattle.queries.specs.Products.{indexOf, restricted}
 use Rattle.queries.specs.Calls.{covarianceOf}
 use Rattle.queries.proofs.Filling.{RowUpTo, row-start, row-more, row-done, index-fits, index-small, index-below, index-next}
