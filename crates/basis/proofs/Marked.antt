@@ -16,11 +16,11 @@ use Rattle.laws.proofs.Integers.{abs-sign}
 use Rattle.laws.proofs.Dyadic.{neg-dy, add-dy, mul-dy, lower-dy, zero-dy}
 use Rattle.laws.proofs.DyadicOrder.{lt-dy}
 use Rattle.laws.proofs.Fit.{times-sign, sg-fits}
+use Rattle.laws.proofs.Tests.{and-left, and-right}
 use Rattle.monomial.specs.Basis.{IsBasis}
 use Rattle.pfaffian.specs.Pfaffian.{pfaffianOf}
 use Rattle.pfaffian.specs.Shot.{half, bit}
 use Rattle.state.specs.Bounds.{dimOf}
-use Rattle.state.proofs.Permutations.{and-left, and-right}
 use Rattle.queries.specs.Lists.{oddly, conflictsOf, notedModes}
 use Rattle.queries.specs.Products.{dimLeft, restricted}
 use Rattle.queries.specs.Marginals.{isOne, shifted, halved, askedMatrix, signOf, atLeastZeroOf, markedOf}

@@ -20,12 +20,12 @@ use Rattle.laws.proofs.Zeros.{le-cong}
 use Rattle.laws.proofs.Dyadic.{neg-dy, add-dy, sub-dy, mul-dy, pow-dy, div-pow-dy, zero-nz, zero-dy}
 use Rattle.laws.proofs.DyadicFloat.{is-float}
 use Rattle.laws.proofs.DyadicOrder.{lt-dy}
+use Rattle.laws.proofs.Tests.{and-left, and-right}
 use Rattle.num.specs.Order.{clampOf}
 use Rattle.monomial.specs.Basis.{basis, IsBasis}
 use Rattle.monomial.proofs.Moves.{basis-small}
 use Rattle.monomial.proofs.States.{basis-apart}
 use Rattle.pfaffian.specs.Shot.{half, tiny, mabOf, drawnOf, drawn, spinOf, denOf, den, projected, updated, next}
-use Rattle.state.proofs.Permutations.{and-left, and-right}
 use Rattle.queries.specs.Samples.{drawOkOf}
 
 -- ---- the numbers

@@ -9,6 +9,7 @@ use lib.ListN.{getD, length}
 use lib.Ieee.{Float}
 use borrow.Author.Tests.{le-leb}
 use Rattle.laws.specs.Zeros.{+0}
+use Rattle.laws.proofs.Tests.{and-left, and-right}
 use Rattle.tape.specs.Parse.{Content, accepted, parse}
 use Rattle.tape.specs.declared.header.Header.{Header}
 use Rattle.state.specs.Bounds.{maxQubits, dimOf, statePlaces}
@@ -18,7 +19,6 @@ use Rattle.state.specs.Answers.{refused}
 use Rattle.state.specs.Answers as Answers
 use Rattle.state.specs.Calls.{expectationZOf}
 use Rattle.state.proofs.Stored.{stored-is}
-use Rattle.state.proofs.Permutations.{and-left, and-right}
 use Rattle.queries.specs.Lists.{badPlace, oddModes, bitsOk, stopPlace, asked, notedModes}
 use Rattle.queries.specs.Products.{dimLeft, productOf}
 use Rattle.queries.specs.Marginals.{markedOf}

@@ -7,7 +7,7 @@ use lib.Dec.{leb}
 use lib.ListN.{length, set}
 use lib.Ieee.{Float}
 use borrow.Author.Tests.{leb-true}
-use Rattle.tape.proofs.Tests.{and-left, and-right}
+use Rattle.laws.proofs.Tests.{and-left, and-right}
 use Rattle.state.specs.Answers.{Told}
 use Rattle.detect.specs.declared.report.Compiled.{Compiled}
 use Rattle.engine.specs.Answers.{noRoom, hasPlaces, Tells}

@@ -9,12 +9,12 @@ use lib.ListN.{length, take}
 use lib.Ieee.{Float, lt, le, neg, ofBits}
 use borrow.Author.Tests.{eq-eqb}
 use Rattle.laws.specs.Views.{from, upFrom}
+use Rattle.laws.specs.Tests.{allBelow}
 use Rattle.num.specs.Bits.{le16, le32, le64}
 use Rattle.gate.specs.Complex.{f0, f1}
 use Rattle.gate.specs.Table.{f-1, gateX, gateCz, gateISwap, matrix1qOf, matrix2qOf}
 use Rattle.gate.specs.declared.matrix.Mat2.{Mat2}
 use Rattle.tape.specs.Bounds.{headerLength}
-use Rattle.tape.specs.Every.{every}
 use Rattle.tape.specs.Header.{headerAt, isTolerance, headerMarked, headerOf}
 use Rattle.tape.specs.Codes.{qubitsOf, floatsOf, gateLength}
 use Rattle.tape.specs.Records.{markedAt, qubitsBelow, qubitsDiffer, entriesSmall, gateFault, sound, gateRecordAt, recordAt}
@@ -134,7 +134,7 @@ parses : (parse (tape 2 0 128 0 []) ≡ accepted (headed 2 0 128) empty)
     × (parse (tape 3 2 32 1 iswap02) ≡ accepted (headed 3 2 288) (only iswapOn02))
     × (parse (tape 3 0 32 1 iswap02) ≡ accepted (headed 3 0 288) (only iswapOn02))
 unfolding parse afterHeader headerOf headerMarked isTolerance headerAt le64 le32 le16 ofBits lt le walk stepped recordAt markedAt gateRecordAt qubitsOf
-    gateLength floatsOf gateFault qubitsBelow qubitsDiffer entriesSmall every sound withGate gateAt matrix1At matrix2At matrix1qOf matrix2qOf
+    gateLength floatsOf gateFault qubitsBelow qubitsDiffer entriesSmall allBelow sound withGate gateAt matrix1At matrix2At matrix1qOf matrix2qOf
 parses = (refl, refl, refl, refl, refl, refl, refl, refl)
 
 -- ---- interactions

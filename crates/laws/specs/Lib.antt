@@ -1,5 +1,6 @@
 -- The definitions that the laws speak of, and that contracts of other crates cite. Assumes nothing.
 pub mod Views
+pub mod Tests
 pub mod Lists
 pub mod Slices
 pub mod Tables

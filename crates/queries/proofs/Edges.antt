@@ -13,9 +13,10 @@ use lib.Ieee.{Float, binary64, mul, sum, round, units, odd, size, climb, span, l
 use borrow.Author.Tests.{le-leb, lt-leb, lt-ltb, eq-eqb, ne-eqb}
 use Rattle.laws.specs.Zeros.{+0, +1, sg}
 use Rattle.laws.specs.Matrix.{Mat}
+use Rattle.laws.specs.Tests.{allBelow}
 use Rattle.pfaffian.specs.Pfaffian.{pfaffianOf}
 use Rattle.pfaffian.proofs.Examples as pfaffian
-use Rattle.state.specs.Modes.{modeAt, allBelow}
+use Rattle.state.specs.Modes.{modeAt}
 use Rattle.state.specs.Questions.{stateOk}
 use Rattle.state.specs.Answers.{Told, accepted}
 use Rattle.queries.specs.Lists.{firstFrom, oddly, badPlace, oddModes, noted, bitsOk, stopPlace, asked, notedModes}

@@ -12,8 +12,9 @@ use lib.ListN.{length, getD}
 use lib.Ieee.{Float}
 use borrow.Author.Tests.{eq-eqb, le-leb, lt-leb, le-ltb}
 use Rattle.laws.specs.Views.{listOf}
+use Rattle.laws.specs.Tests.{allBelow}
 use Rattle.laws.proofs.Views.{length-listOf, getD-listOf}
-use Rattle.state.specs.Modes.{modeAt, allBelow, isPermutation}
+use Rattle.state.specs.Modes.{modeAt, isPermutation}
 use Rattle.state.specs.Questions.{stateOk}
 use Rattle.state.proofs.Permutations.{mode-one}
 use Rattle.state.proofs.Questions as questions

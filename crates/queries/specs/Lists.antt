@@ -4,7 +4,8 @@ use mathlib.Core.List.{List, [], _∷_, _++_}
 use Prim.Native.Nat.{ℕ, zero, suc}
 use lib.Dec.{eqb, leb, ltb}
 use lib.ListN.{getD, length}
-use Rattle.state.specs.Modes.{modeAt, allBelow}
+use Rattle.laws.specs.Tests.{allBelow}
+use Rattle.state.specs.Modes.{modeAt}
 
 -- ---- numbers that pass a test
 

@@ -4,6 +4,7 @@ use mathlib.Core.Path.{_≡_, refl}
 use mathlib.Core.Bool.{Bool, true, false}
 use mathlib.Core.List.{[], _∷_}
 use lib.Ieee.{Float, add, sub, mul, div, neg, lt, le, eq, isNan}
+use Rattle.laws.specs.Tests.{allBelow}
 use Rattle.num.specs.Order.{absOf}
 use Rattle.laws.specs.Views.{upFrom, seek}
 use Rattle.laws.specs.Zeros.{+0, +1}
@@ -15,7 +16,7 @@ use Rattle.real.specs.declared.maps.Map4.{Map4}
 use Rattle.state.specs.State.{vacuum, get}
 use Rattle.state.specs.Det.{betterOf, lastLargest, less, loweredAll, eliminated, det, odd}
 use Rattle.state.specs.Apply.{step}
-use Rattle.state.specs.Modes.{allBelow, isPermutation, qubitAt}
+use Rattle.state.specs.Modes.{isPermutation, qubitAt}
 
 -- ---- maps
 

@@ -5,70 +5,17 @@ use mathlib.Core.Logic.{_⊎_, inl, inr, _≢_}
 use mathlib.Core.Bool.{Bool, true, false, not, _&&_, false≢true}
 use mathlib.Core.List.{List, [], _∷_}
 use Prim.Native.Nat.{ℕ, zero, suc, _+_, _-_, _≤_, _<_}
-use native.Mathlib.Nat.{le-of-suc-le-suc, not-suc-le-zero, eq-or-lt-of-le, le-antisymm}
+use native.Mathlib.Nat.{le-antisymm}
 use native.Mathlib.Numerals.{add-one}
 use native.Mathlib.Omega.{arith}
 use lib.Dec.{eqb, ltb, leb}
 use lib.ListN.{length, getD, set, length-set}
 use lib.Seq.{getD-set-same, getD-set-other}
 use borrow.Author.Tests.{eq-eqb, ne-eqb, eqb-true, lt-ltb, ltb-true, leb-true}
+use Rattle.laws.specs.Tests.{allBelow}
 use Rattle.laws.proofs.Cases.{lt-or-le, eq-or-ne}
-use Rattle.state.specs.Modes.{modeAt, allBelow, unused, modeOk, isPermutation}
-
--- ---- a test of every number below n
-
-pub and-left : (a b : Bool) → a && b ≡ true → a ≡ true
-and-left true b e = refl
-and-left false b e = e
-
-pub and-right : (a b : Bool) → a && b ≡ true → b ≡ true
-and-right true b e = e
-and-right false b e = absurd (false≢true e)
-
-module _ (f : ℕ → Bool) where
-  -- of one of them
-  pub all-each : (n k : ℕ) → allBelow f n ≡ true → k < n → f k ≡ true
-  unfolding allBelow
-  all-each zero k t h = absurd (not-suc-le-zero h)
-  all-each (suc n) k t h = by (eq-or-lt-of-le (le-of-suc-le-suc h)) (λ q. all-each n k (and-left (allBelow f n) (f n) t) q)
-    where
-      by : (k ≡ n) ⊎ (k < n) → (k < n → f k ≡ true) → f k ≡ true
-      by (inl q) r = ap f q ∙ and-right (allBelow f n) (f n) t
-      by (inr q) r = r q
-
-  -- one more
-  pub all-more : (n : ℕ) → allBelow f n ≡ true → f n ≡ true → allBelow f (n + 1) ≡ true
-  unfolding allBelow
-  all-more n t e = rw (add-one, t, e)
-
-  -- one more that holds
-  pub all-next : (n : ℕ) (b : Bool) → b ≡ allBelow f n → f n ≡ true → b ≡ allBelow f (n + 1)
-  unfolding allBelow
-  all-next n b t e = rw (add-one, e) (t ∙ and-true (allBelow f n))
-    where
-      and-true : (b : Bool) → b ≡ b && true
-      and-true true = refl
-      and-true false = refl
-
-  -- all hold
-  pub all-of : (n : ℕ) → ((k : ℕ) → k < n → f k ≡ true) → allBelow f n ≡ true
-  unfolding allBelow
-  all-of zero h = refl
-  all-of (suc n) h = rw (all-of n (λ k g. h k (omega arith)), h n (omega arith))
-
-  -- one that fails is enough
-  pub all-fails : (n k : ℕ) → k < n → f k ≡ false → false ≡ allBelow f n
-  unfolding allBelow
-  all-fails zero k h e = absurd (not-suc-le-zero h)
-  all-fails (suc n) k h e = by (eq-or-lt-of-le (le-of-suc-le-suc h)) (λ q. all-fails n k q e)
-    where
-      last : (b : Bool) → false ≡ b && false
-      last true = refl
-      last false = refl
-
-      by : (k ≡ n) ⊎ (k < n) → (k < n → false ≡ allBelow f n) → false ≡ allBelow f n && f n
-      by (inl q) r = rw (ap f (sym q) ∙ e) (last (allBelow f n))
-      by (inr q) r = rw (← r q)
+use Rattle.laws.proofs.Tests.{and-left, and-right, all-each, all-of}
+use Rattle.state.specs.Modes.{modeAt, unused, modeOk, isPermutation}
 
 -- ---- the marks: mode k is marked exactly if a qubit before q has it
 

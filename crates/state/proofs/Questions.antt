@@ -9,10 +9,10 @@ use lib.Dec.{leb}
 use lib.ListN.{length}
 use lib.Ieee.{Float}
 use borrow.Author.Tests.{leb-true}
+use Rattle.laws.proofs.Tests.{and-left, and-right}
 use Rattle.state.specs.Bounds.{maxQubits, dimOf, statePlaces}
 use Rattle.state.specs.Modes.{isPermutation}
 use Rattle.state.specs.Questions.{stateOk}
-use Rattle.state.proofs.Permutations.{and-left, and-right}
 
 pub record Asked (n : ℕ) (s : List Float) (modes : List ℕ) : Type 0 where
   pub few : n ≤ maxQubits

@@ -1,19 +1,15 @@
 -- The mode table: entry q is the mode of qubit q. "The mode table's first n a permutation" (question 16). Definitions only.
-use mathlib.Core.Bool.{Bool, true, not, _&&_}
+use mathlib.Core.Bool.{Bool, not, _&&_}
 use mathlib.Core.List.{List}
-use Prim.Native.Nat.{ℕ, zero, suc, _-_}
+use Prim.Native.Nat.{ℕ, _-_}
 use lib.Dec.{eqb, leb, ltb}
 use lib.ListN.{getD, length}
 use Rattle.laws.specs.Views.{seek}
+use Rattle.laws.specs.Tests.{allBelow}
 
 -- the mode of qubit q
 abbrev pub modeAt : List ℕ → ℕ → ℕ
 modeAt l q = getD l q 0
-
--- f holds of every number below n
-unfoldable pub allBelow : (ℕ → Bool) → ℕ → Bool
-allBelow f zero = true
-allBelow f (suc n) = allBelow f n && f n
 
 -- no qubit before q has mode k
 abbrev pub unused : List ℕ → ℕ → ℕ → Bool

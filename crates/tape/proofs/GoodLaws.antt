@@ -11,6 +11,7 @@ use lib.ListN.{length, getD}
 use lib.IntN.{ℤ}
 use lib.Ieee.{Float, nan, inf, fin, ofBits, lt, eq, le}
 use borrow.Author.Tests.{ltb-true, eqb-true, eqb-false, ne-eqb, not-true}
+use Rattle.laws.proofs.Tests.{and-left, and-right, all-each}
 use Rattle.num.specs.Bits.{f64At}
 use Rattle.num.specs.Order.{absOf}
 use Rattle.gate.specs.Given.{complexAt, given2At, givenRowAt, given4At}
@@ -27,7 +28,6 @@ use Rattle.tape.specs.declared.header.Header.{Header}
 use Rattle.tape.specs.declared.gates.Gate.{Gate}
 use Rattle.tape.specs.declared.gates.Gate.the-variants.{One, Two, Three}
 use Rattle.tape.specs.declared.labels.Span.{Span}
-use Rattle.tape.proofs.Tests.{and-left, and-right, every-each}
 use Rattle.tape.proofs.CodeLaws.{three-left}
 use Rattle.tape.proofs.RecordLaws.{GateRecord, gate-next}
 use Rattle.tape.proofs.Walks.{Walks, to-gate, to-label, to-end, to-refusal, Parses, no-header, records, parses}
@@ -44,7 +44,7 @@ small-finite (fin s m d) e = (s, m, d, refl)
 module _ (t : List ℕ) (p k : ℕ) (small : entriesSmall t p k ≡ true) where
   entry-small : (q j : ℕ) → q ≡ p + 8 * j → j < k → smallEntry (f64At t q) ≡ true
   unfolding entriesSmall
-  entry-small q j e h = ap (λ i. smallEntry (f64At t i)) e ∙ every-each (λ j. smallEntry (f64At t (p + 8 * j))) k j h small
+  entry-small q j e h = ap (λ i. smallEntry (f64At t i)) e ∙ all-each (λ j. smallEntry (f64At t (p + 8 * j))) k j small h
 
   complex-small : (q j : ℕ) → q ≡ p + 8 * j → j + 2 ≤ k → smallComplex (complexAt t q) ≡ true
   unfolding smallComplex complexAt
@@ -112,7 +112,7 @@ module _ (t : List ℕ) (i n g : ℕ) (w : GateRecord t i n g) where
 
   qubit-below : (j : ℕ) → j < K → qubitAt t i j < n
   unfolding qubitsBelow
-  qubit-below j h = ltb-true _ _ (every-each (λ j. ltb (qubitAt t i j) n) K j h (w .below))
+  qubit-below j h = ltb-true _ _ (all-each (λ j. ltb (qubitAt t i j) n) K j (w .below) h)
 
   two-differ : K ≡ 2 → qubitAt t i 0 ≢ qubitAt t i 1
   unfolding qubitsDiffer

@@ -11,6 +11,7 @@ use lib.ListN.{length, getD, take, length-take}
 use lib.Seq.{getD-take}
 use lib.Ieee.{binary64, ofBits}
 use borrow.Author.Tests.{ltb-false, lt-leb, le-ltb}
+use Rattle.laws.proofs.Tests.{else-same, all-same}
 use Rattle.num.specs.Bits.{byteAt, le16, le32, le64, f64At}
 use Rattle.laws.proofs.Cases.{lt-or-le}
 use Rattle.tape.specs.Bounds.{maxQubits, maxFlags, maxGates, maxLabel, headerLength, markByte, headerMark, gateMark, labelMark, leading, longest}
@@ -25,7 +26,6 @@ use Rattle.tape.specs.declared.record.Step.{Step}
 use Rattle.tape.specs.declared.record.Step.the-variants.{Gate, Label, End, Refused}
 use Rattle.tape.specs.declared.gates.Gate as Gates
 use Rattle.tape.specs.declared.labels.Span.{Span}
-use Rattle.tape.proofs.Tests.{every-same, else-same}
 use Rattle.tape.proofs.CodeLaws.{qubits-few, gate-parts, gate-longest}
 use Rattle.tape.proofs.RecordLaws.{gate-next, label-next, refusal-place}
 use Rattle.tape.proofs.Walks.{Walks, to-gate, to-label, to-end, to-refusal, walks-is, Parses, no-header, records, parses}
@@ -134,7 +134,7 @@ module _ (k : ℕ) (t u : List ℕ) (s : Same k t u) where
 
     below-same : (c : ℕ) → qubitsBelow t i (qubitsOf c) n ≡ qubitsBelow u i (qubitsOf c) n
     unfolding qubitsBelow
-    below-same c = every-same (λ j. ltb (qubitAt t i j) n) (λ j. ltb (qubitAt u i j) n) (qubitsOf c)
+    below-same c = all-same (λ j. ltb (qubitAt t i j) n) (λ j. ltb (qubitAt u i j) n) (qubitsOf c)
         (λ j h. ap (λ q. ltb q n) (qubit-same j (omega (arith, qubits-few c))))
 
     differ-same : (c : ℕ) → qubitsDiffer t i c ≡ qubitsDiffer u i c
@@ -149,7 +149,7 @@ module _ (k : ℕ) (t u : List ℕ) (s : Same k t u) where
     small-same : (c : ℕ) → entriesSmall t (i + leading + qubitsOf c) (floatsOf c) ≡ entriesSmall u (i + leading + qubitsOf c) (floatsOf c)
     unfolding entriesSmall
     small-same c =
-        every-same (λ j. smallEntry (f64At t (i + leading + qubitsOf c + 8 * j))) (λ j. smallEntry (f64At u (i + leading + qubitsOf c + 8 * j)))
+        all-same (λ j. smallEntry (f64At t (i + leading + qubitsOf c + 8 * j))) (λ j. smallEntry (f64At u (i + leading + qubitsOf c + 8 * j)))
         (floatsOf c)
         (λ j h. ap smallEntry (f64-same (i + leading + qubitsOf c + 8 * j) (inside c j h)))
       where
@@ -177,7 +177,7 @@ module _ (k : ℕ) (t u : List ℕ) (s : Same k t u) where
 
     bytes-same : (b : ℕ) → b ≤ maxLabel → labelBytes t (i + leading) b ≡ labelBytes u (i + leading) b
     unfolding labelBytes
-    bytes-same b h = every-same (λ j. printable (byteAt t (i + leading + j))) (λ j. printable (byteAt u (i + leading + j))) b
+    bytes-same b h = all-same (λ j. printable (byteAt t (i + leading + j))) (λ j. printable (byteAt u (i + leading + j))) b
         (λ j l. ap printable (s .bytes (i + leading + j) (omega arith)))
 
     label-same : labelRecordAt t i ≡ labelRecordAt u i

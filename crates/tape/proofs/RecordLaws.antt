@@ -7,6 +7,7 @@ use native.Mathlib.Omega.{arith}
 use lib.Dec.{ltb, leb, eqb}
 use lib.ListN.{length}
 use borrow.Author.Tests.{ltb-false, leb-true, leb-false, eqb-false, eqb-true}
+use Rattle.laws.proofs.Tests.{and-right}
 use Rattle.num.specs.Bits.{byteAt}
 use Rattle.tape.specs.Bounds.{maxGates, maxLabel, markByte, gateMark, labelMark, leading}
 use Rattle.tape.specs.Codes.{qubitsOf, floatsOf, gateLength}
@@ -14,7 +15,6 @@ use Rattle.tape.specs.Records.{markedAt, codeAt, entriesAt, qubitsBelow,
 use Rattle.tape.specs.Gates.{WholeGate}
 use Rattle.tape.specs.declared.record.Step.{Step}
 use Rattle.tape.specs.declared.record.Step.the-variants.{Gate, Label, End, Refused}
-use Rattle.tape.proofs.Tests.{and-right}
 
 -- ---- what a record is
 

@@ -1,6 +1,5 @@
 -- What the contracts of `tape` speak of: the tape of document 01, read from left to right. Definitions only.
 pub mod Bounds
-pub mod Every
 pub mod Header
 pub mod Codes
 pub mod Records

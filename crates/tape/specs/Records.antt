@@ -6,10 +6,10 @@ use mathlib.Core.List.{List}
 use lib.Dec.{ltb, leb, eqb}
 use lib.ListN.{length}
 use lib.Ieee.{Float, le}
+use Rattle.laws.specs.Tests.{allBelow}
 use Rattle.num.specs.Bits.{byteAt, f64At}
 use Rattle.num.specs.Order.{absOf}
 use Rattle.tape.specs.Bounds.{maxGates, maxLabel, maxEntry, markByte, gateMark, labelMark, leading}
-use Rattle.tape.specs.Every.{every}
 use Rattle.tape.specs.Codes.{qubitsOf, floatsOf, gateLength}
 use Rattle.tape.specs.declared.record.Step.{Step}
 use Rattle.tape.specs.declared.record.Step.the-variants.{Gate, Label, End, Refused}
@@ -34,7 +34,7 @@ entriesAt t i = i + leading + qubitsOf (codeAt t i)
 
 -- 6. Is each qubit below n?
 unfoldable pub qubitsBelow : List ℕ → ℕ → ℕ → ℕ → Bool
-qubitsBelow t i k n = every (λ j. ltb (qubitAt t i j) n) k
+qubitsBelow t i k n = allBelow (λ j. ltb (qubitAt t i j) n) k
 
 -- 7. Are they different? There are at most three of them.
 unfoldable pub qubitsDiffer : List ℕ → ℕ → ℕ → Bool
@@ -51,7 +51,7 @@ smallEntry x = le (absOf x) maxEntry
 
 -- 8. Is each f64 of a given matrix finite, its absolute value at most 2? k of them stand from p on
 unfoldable pub entriesSmall : List ℕ → ℕ → ℕ → Bool
-entriesSmall t p k = every (λ j. smallEntry (f64At t (p + 8 * j))) k
+entriesSmall t p k = allBelow (λ j. smallEntry (f64At t (p + 8 * j))) k
 
 -- the first of 6 to 8 that has no for an answer, 0 if none has
 unfoldable pub gateFault : List ℕ → ℕ → ℕ → ℕ
@@ -85,7 +85,7 @@ printable b = leb 0x20 b && leb b 0x7e
 
 -- the k bytes from s on
 unfoldable pub labelBytes : List ℕ → ℕ → ℕ → Bool
-labelBytes t s k = every (λ j. printable (byteAt t (s + j))) k
+labelBytes t s k = allBelow (λ j. printable (byteAt t (s + j))) k
 
 -- "51 4C, length 0 to 40, bytes 20 to 7E": 5 alone is asked
 unfoldable pub labelRecordAt : List ℕ → ℕ → Step

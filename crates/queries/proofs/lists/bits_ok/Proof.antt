@@ -7,8 +7,8 @@ use native.Mathlib.Omega.{arith}
 use borrow.Author.Tests.{eq-eqb, ne-eqb, le-leb, lt-leb}
 use lib.Dec.{leb}
 use lib.ListN.{length, getD}
-use Rattle.state.specs.Modes.{allBelow}
-use Rattle.state.proofs.Permutations.{all-more, all-fails}
+use Rattle.laws.specs.Tests.{allBelow}
+use Rattle.laws.proofs.Tests.{all-more, all-fails}
 use Rattle.queries.specs.Lists.{bitsOk}
 use Rattle.queries.proofs.lists.bits_ok.Statement.{statement}
 use Rattle.queries.proofs.lists.bits_ok.Tie as tie

@@ -6,7 +6,7 @@ use native.Mathlib.Omega.{arith}
 use borrow.Author.Needs.{needs}
 use borrow.Author.Tests.{le-ltb}
 use Rattle.state.specs.Modes.{modeAt, modeOk}
-use Rattle.state.proofs.Permutations.{all-fails}
+use Rattle.laws.proofs.Tests.{all-fails}
 use Rattle.state.proofs.Words.{Words, words-first, words-more, words-all}
 use Rattle.state.proofs.check.all_met.Statement.{statement}
 use Rattle.state.proofs.check.all_met.Tie as tie

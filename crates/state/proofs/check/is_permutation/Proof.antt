@@ -6,7 +6,8 @@ use borrow.Author.Needs.{needs}
 use borrow.Author.Tests.{le-leb, lt-leb}
 use Rattle.laws.specs.Views.{upFrom, listOf}
 use Rattle.state.specs.Bounds.{maxQubits}
-use Rattle.state.specs.Modes.{allBelow, isPermutation}
+use Rattle.laws.specs.Tests.{allBelow}
+use Rattle.state.specs.Modes.{isPermutation}
 use Rattle.state.proofs.Permutations.{none-set, identity-ok}
 use Rattle.state.proofs.check.is_permutation.Statement.{statement}
 use Rattle.state.proofs.check.is_permutation.Tie as tie
