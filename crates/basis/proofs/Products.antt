@@ -16,10 +16,10 @@ use borrow.Author.Tests.{ltb-true, ltb-false, leb-false}
 use Rattle.laws.specs.Zeros.{+1, sg}
 use Rattle.laws.specs.Dyadic.{Dy, withSign}
 use Rattle.laws.specs.Matrix.{Mat}
+use Rattle.laws.specs.Tables.{modeAt}
 use Rattle.laws.proofs.Integers.{abs-sign}
 use Rattle.monomial.specs.Monomial.{flip}
 use Rattle.monomial.specs.Basis.{basis}
-use Rattle.state.specs.Modes.{modeAt}
 use Rattle.state.specs.Questions.{stateOk}
 use Rattle.state.specs.Answers.{accepted, refused}
 use Rattle.state.specs.Calls.{zOf, expectationZOf}

@@ -13,13 +13,13 @@ use lib.Ieee.{Float, nan}
 use borrow.Author.Tests.{lt-ltb, le-ltb, ltb-false, not-false}
 use Rattle.laws.specs.Zeros.{+0}
 use Rattle.laws.specs.Matrix.{Mat}
+use Rattle.laws.specs.Tables.{modeAt}
 use Rattle.laws.proofs.Cases.{lt-or-le}
 use Rattle.laws.proofs.Views.{up-same}
 use Rattle.monomial.specs.Basis.{IsBasis}
-use Rattle.pfaffian.specs.Shot.{drawFrom, modeOf, qubitBit, wordOf, shot, next, reached, outcome}
+use Rattle.pfaffian.specs.Shot.{drawFrom, qubitBit, wordOf, shot, next, reached, outcome}
 use Rattle.pfaffian.proofs.Listing.{shot-at, word-same}
 use Rattle.state.specs.Bounds.{dimOf}
-use Rattle.state.specs.Modes.{modeAt}
 use Rattle.state.specs.Answers.{accepted, refused}
 use Rattle.state.specs.Questions.{stateOk}
 use Rattle.state.proofs.Permutations.{mode-below}
@@ -50,10 +50,10 @@ module _ (n : ℕ) (b : ℕ → Bool) (e : Mat) (t : ℕ → Float) (E : IsBasis
 
 module _ (n : ℕ) (b r : ℕ → Bool) (e : Mat) (modes : List ℕ) (R : Reads n b r e modes) where
   module _ (t : ℕ → Float) (ok : (k : ℕ) → k < n → drawOkOf (t k) ≡ true) where
-    bit-is : (q : ℕ) → qubitBit (modeOf modes) n (shot e 0 n t) q ≡ shotBit n r q
+    bit-is : (q : ℕ) → qubitBit (modeAt modes) n (shot e 0 n t) q ≡ shotBit n r q
     bit-is q = by (lt-or-le q n)
       where
-        by : (q < n) ⊎ (n ≤ q) → qubitBit (modeOf modes) n (shot e 0 n t) q ≡ shotBit n r q
+        by : (q < n) ⊎ (n ≤ q) → qubitBit (modeAt modes) n (shot e 0 n t) q ≡ shotBit n r q
         by (inl h) =
             let below = mode-below n modes (R .table) q h in
             ap (λ (x : Bool). ltb q n && x)
@@ -74,7 +74,7 @@ module _ (n : ℕ) (b r : ℕ → Bool) (e : Mat) (modes : List ℕ) (R : Reads 
     shot-is i j h = λ u. cond (eqb j 0) (word 0 u) (word wordBits u)
       where
         bits : ℕ → Bool
-        bits = qubitBit (modeOf modes) n (shot e 0 n (drawFrom draws (i * n)))
+        bits = qubitBit (modeAt modes) n (shot e 0 n (drawFrom draws (i * n)))
 
         word : (q : ℕ) → wordOf bits q wordBits ≡ wordOf (shotBit n r) q wordBits
         word q = word-same bits (shotBit n r) (bit-is (drawFrom draws (i * n)) (λ k g. draw-ok i k h g)) q wordBits

@@ -12,6 +12,7 @@ use lib.Ieee.{Float, binary64, mul, neg, fits}
 use lib.Ieee.Fits.{mul-fits}
 use Rattle.laws.specs.Zeros.{+0, +1}
 use Rattle.laws.specs.Dyadic.{Dy}
+use Rattle.laws.specs.Tables.{modeAt}
 use Rattle.real.specs.Maps.{entry2, entry4}
 use Rattle.gate.specs.declared.complex.Complex.{Complex}
 use Rattle.gate.specs.declared.matrix.Mat2.{Mat2}
@@ -26,7 +27,7 @@ use Rattle.state.specs.Bounds.{maxQubits, dimOf}
 use Rattle.state.specs.State.{State, Stored, stateAt, vacuum, get}
 use Rattle.state.specs.Det.{odd}
 use Rattle.state.specs.Operation.{effect}
-use Rattle.state.specs.Modes.{modeAt, isPermutation}
+use Rattle.state.specs.Modes.{isPermutation}
 use Rattle.state.specs.declared.operation.Operation.the-variants.{One, Two}
 use Rattle.state.proofs.Stored.{Alike, read-back}
 use Rattle.queries.specs.Calls.{covarianceOf}

@@ -8,10 +8,11 @@ use lib.Dec.{T}
 use lib.Ieee.{binary64, fits}
 use Rattle.laws.specs.Zeros.{+1, sg}
 use Rattle.laws.specs.Matrix.{Mat}
+use Rattle.laws.specs.Tables.{modeAt}
 use Rattle.monomial.specs.Basis.{IsBasis}
 use Rattle.state.specs.Bounds.{maxQubits, dimOf}
 use Rattle.state.specs.State.{State}
-use Rattle.state.specs.Modes.{modeAt, isPermutation}
+use Rattle.state.specs.Modes.{isPermutation}
 
 -- t holds the basis state of the bits b on n modes. The two signs of a mode are the same, 1.0 or -1.0: they turn together or not at all
 pub record Holds (n : ℕ) (b : ℕ → Bool) (t : State) : Type 0 where

@@ -7,12 +7,13 @@ use native.Mathlib.Omega.{arith}
 use lib.Dec.{eqb}
 use lib.ListN.{length}
 use borrow.Author.Tests.{ne-eqb, lt-ltb, le-leb}
+use Rattle.laws.specs.Tables.{modeAt}
 use Rattle.laws.proofs.Tests.{all-of}
 use Rattle.tape.specs.Bounds.{maxQubits}
 use Rattle.tape.specs.Parse.{Content, accepted, parse}
 use Rattle.tape.specs.declared.header.Header.{Header}
 use Rattle.tape.specs.declared.gates.Gate.{Gate}
-use Rattle.state.specs.Modes.{modeAt, modeOk, isPermutation}
+use Rattle.state.specs.Modes.{modeOk, isPermutation}
 use Rattle.detect.specs.Report.{reportOf}
 use Rattle.detect.specs.Compile.{modeOfQubit, reportedOf}
 use Rattle.detect.proofs.Entries.{length-table}

@@ -74,15 +74,11 @@ reached e t (suc k) = next (reached e t k) k (drawn (reached e t k) k (t k))
 abbrev pub outcome : Mat → (ℕ → Float) → ℕ → Bool
 outcome e t k = drawn (reached e t k) k (t k)
 
--- ---- the draws and the mode table, as slices have them
+-- ---- the draws, as a slice has them
 
 -- draw k of a shot whose draws start at `first`
 abbrev pub drawFrom : List Float → ℕ → ℕ → Float
 drawFrom draws first k = getD draws (first + k) nan
-
--- the mode of qubit q
-abbrev pub modeOf : List ℕ → ℕ → ℕ
-modeOf modes q = getD modes q 0
 
 -- ---- the words of a shot
 

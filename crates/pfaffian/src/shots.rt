@@ -7,8 +7,9 @@ ghost use Prim.Native.Nat.{_+_, _*_, _≤_, _<_};
 ghost use lib.ListN.{length, getD};
 ghost use lib.Ieee.{nan};
 ghost use Rattle.laws.specs.Matrix.{at, Inside, Holds};
+ghost use Rattle.laws.specs.Tables.{modeAt};
 ghost use Rattle.pfaffian.specs.Work.{Kept};
-ghost use Rattle.pfaffian.specs.Shot.{maxModes, drawnOf, spinOf, drawFrom, modeOf, bit, qubitBit, wordOf, shotOf};
+ghost use Rattle.pfaffian.specs.Shot.{maxModes, drawnOf, spinOf, drawFrom, bit, qubitBit, wordOf, shotOf};
 ghost use Rattle.pfaffian.specs.Turns.{laid, measuredRow, measured, laidPair, Measures, ShotListed};
 use num::clamp;
 use real::entry;
@@ -161,7 +162,7 @@ fn wide(x: u16) -> usize
 // The bit of qubit q: the outcome of its mode.
 fn qubit_bit(bits: &[bool], modes: &[u16], n: usize, q: usize) -> u64
     requires { ⌜ n ≤ length (now modes) ⌝ }
-    ensures value { λ r. ⌜ r ≡ bit (qubitBit (modeOf (now (modes .entry))) n (now (bits .entry)) q) ⌝ }
+    ensures value { λ r. ⌜ r ≡ bit (qubitBit (modeAt (now (modes .entry))) n (now (bits .entry)) q) ⌝ }
     ensures bound { λ r. ⌜ r ≤ 1 ⌝ }
 {
     if q < n {
@@ -179,7 +180,7 @@ fn qubit_bit(bits: &[bool], modes: &[u16], n: usize, q: usize) -> u64
 fn word(bits: &[bool], modes: &[u16], n: usize, low: usize) -> u64
     requires { ⌜ n ≤ length (now modes) ⌝ }
     requires { ⌜ low ≤ 64 ⌝ }
-    ensures { λ r. ⌜ r ≡ wordOf (qubitBit (modeOf (now (modes .entry))) n (now (bits .entry))) low 64 ⌝ }
+    ensures { λ r. ⌜ r ≡ wordOf (qubitBit (modeAt (now (modes .entry))) n (now (bits .entry))) low 64 ⌝ }
 {
     let mut w = 0;
     let mut i = 64;
@@ -202,7 +203,7 @@ pub fn shot(m: &mut [f64], n: usize, draws: &[f64], first: usize, modes: &[u16])
     requires { ⌜ n ≤ maxModes ⌝ }
     requires { ⌜ first + n ≤ length (now draws) ⌝ }
     requires { ⌜ n ≤ length (now modes) ⌝ }
-    ensures words { λ r. ⌜ r ≡ shotOf (at (2 * n) (now (m .entry))) n (drawFrom (now (draws .entry)) first) (modeOf (now (modes .entry))) ⌝ }
+    ensures words { λ r. ⌜ r ≡ shotOf (at (2 * n) (now (m .entry))) n (drawFrom (now (draws .entry)) first) (modeAt (now (modes .entry))) ⌝ }
     ensures kept { λ _. ⌜ Kept (2 * n) (now (m .entry)) (now (m .exit)) ⌝ }
 {
     let mut bits = [false; MODES];

@@ -14,9 +14,9 @@ use borrow.Author.Tests.{le-leb, lt-leb, lt-ltb, eq-eqb, ne-eqb}
 use Rattle.laws.specs.Zeros.{+0, +1, sg}
 use Rattle.laws.specs.Matrix.{Mat}
 use Rattle.laws.specs.Tests.{allBelow}
+use Rattle.laws.specs.Tables.{modeAt}
 use Rattle.pfaffian.specs.Pfaffian.{pfaffianOf}
 use Rattle.pfaffian.proofs.Examples as pfaffian
-use Rattle.state.specs.Modes.{modeAt}
 use Rattle.state.specs.Questions.{stateOk}
 use Rattle.state.specs.Answers.{Told, accepted}
 use Rattle.queries.specs.Lists.{firstFrom, oddly, badPlace, oddModes, noted, bitsOk, stopPlace, asked, notedModes}

@@ -13,8 +13,9 @@ use lib.Ieee.{Float}
 use borrow.Author.Tests.{eq-eqb, le-leb, lt-leb, le-ltb}
 use Rattle.laws.specs.Views.{listOf}
 use Rattle.laws.specs.Tests.{allBelow}
+use Rattle.laws.specs.Tables.{modeAt}
 use Rattle.laws.proofs.Views.{length-listOf, getD-listOf}
-use Rattle.state.specs.Modes.{modeAt, isPermutation}
+use Rattle.state.specs.Modes.{isPermutation}
 use Rattle.state.specs.Questions.{stateOk}
 use Rattle.state.proofs.Permutations.{mode-one}
 use Rattle.state.proofs.Questions as questions

@@ -9,10 +9,11 @@ use lib.ListN.{length, getD}
 use lib.Ieee.{Float, nan, inf, fin, binary64, add, sub, mul, lt}
 use Rattle.laws.specs.Zeros.{+0, nz}
 use Rattle.laws.specs.Matrix.{Mat}
+use Rattle.laws.specs.Tables.{modeAt}
 use Rattle.laws.proofs.Zeros.{lt-nz, add-cong, sub-cong, mul-cong, cond-cong}
 use Rattle.laws.proofs.Views.{up-same}
 use Rattle.pfaffian.specs.Pfaffian.{pfaffianOf}
-use Rattle.pfaffian.specs.Shot.{half, drawFrom, modeOf}
+use Rattle.pfaffian.specs.Shot.{half, drawFrom}
 use Rattle.pfaffian.proofs.Seen.{Alike}
 use Rattle.pfaffian.proofs.Congruent.{pfaffian-cong}
 use Rattle.pfaffian.proofs.SameShots.{shot-cong}
@@ -81,7 +82,7 @@ module _ (e e′ : Mat) (n : ℕ) (h : Alike nz 0 (2 * n) e e′) where
 
   -- a shot, and all of them
   pub shot-at-cong : (modes : List ℕ) (draws : List Float) (i : ℕ) → shotAt e n modes draws i ≡ shotAt e′ n modes draws i
-  shot-at-cong modes draws i = shot-cong e e′ n (drawFrom draws (i * n)) (modeOf modes) h
+  shot-at-cong modes draws i = shot-cong e e′ n (drawFrom draws (i * n)) (modeAt modes) h
 
   pub sampled-cong : (modes : List ℕ) (shots : ℕ) (draws : List Float) (out : List ℕ)
       → sampled e n modes shots draws out ≡ sampled e′ n modes shots draws out

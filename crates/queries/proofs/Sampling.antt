@@ -12,10 +12,11 @@ use lib.Seq.{ext-getD, getD-set-same, getD-set-other}
 use lib.Ieee.{Float}
 use borrow.Author.Tests.{eq-eqb, ne-eqb, lt-ltb, le-ltb}
 use Rattle.laws.specs.Matrix.{Mat, at, matrix}
+use Rattle.laws.specs.Tables.{modeAt}
 use Rattle.laws.proofs.Cases.{eq-or-ne, lt-or-le}
 use Rattle.laws.proofs.Views.{length-listOf, getD-listOf}
 use Rattle.laws.proofs.Matrix.{matrix-is}
-use Rattle.pfaffian.specs.Shot.{drawFrom, modeOf, shotOf}
+use Rattle.pfaffian.specs.Shot.{drawFrom, shotOf}
 use Rattle.pfaffian.specs.declared.shots.Words.{Words}
 use Rattle.pfaffian.proofs.SameShots.{shot-same}
 use Rattle.state.specs.Bounds.{maxQubits}
@@ -36,11 +37,11 @@ used-few n shots h g = le-trans (mul-le-mul-right {m = n} shots h) (mul-le-mul-l
 -- ---- a shot from the copy
 
 pub shot-copied : (e : Mat) (n : ℕ) (modes : List ℕ) (draws : List Float) (i first : ℕ) (w₀ w₁ : List Float) → 2 * n * (2 * n) ≤ length w₀
-    → w₁ ≡ matrix (2 * n) e w₀ → first ≡ i * n → shotOf (at (2 * n) w₁) n (drawFrom draws first) (modeOf modes) ≡ shotAt e n modes draws i
+    → w₁ ≡ matrix (2 * n) e w₀ → first ≡ i * n → shotOf (at (2 * n) w₁) n (drawFrom draws first) (modeAt modes) ≡ shotAt e n modes draws i
 shot-copied e n modes draws i first w₀ w₁ room c f =
     let v = matrix-is (2 * n) w₀ e w₁ room c in
-    shot-same (at (2 * n) w₁) e n (drawFrom draws first) (modeOf modes) (λ r c li hi lj hj. v .each r c hi hj)
-    ∙ ap (λ k. shotOf e n (drawFrom draws k) (modeOf modes)) f
+    shot-same (at (2 * n) w₁) e n (drawFrom draws first) (modeAt modes) (λ r c li hi lj hj. v .each r c hi hj)
+    ∙ ap (λ k. shotOf e n (drawFrom draws k) (modeAt modes)) f
 
 -- ---- the words: W i is shot i
 

@@ -4,7 +4,7 @@ use mathlib.Core.Bool.{cond}
 use mathlib.Core.List.{List}
 use Prim.Native.Nat.{ℕ, _-_, _/_, _%_, _^_}
 use lib.Dec.{ltb}
-use Rattle.state.specs.Modes.{modeAt}
+use Rattle.laws.specs.Tables.{modeAt}
 use Rattle.queries.specs.Lists.{noted}
 
 -- the bits of a word

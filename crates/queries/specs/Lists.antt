@@ -5,7 +5,7 @@ use Prim.Native.Nat.{ℕ, zero, suc}
 use lib.Dec.{eqb, leb, ltb}
 use lib.ListN.{getD, length}
 use Rattle.laws.specs.Tests.{allBelow}
-use Rattle.state.specs.Modes.{modeAt}
+use Rattle.laws.specs.Tables.{modeAt}
 
 -- ---- numbers that pass a test
 

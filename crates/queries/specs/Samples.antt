@@ -9,7 +9,8 @@ use lib.Ieee.{Float, nan, le, lt}
 use Rattle.laws.specs.Views.{listOf}
 use Rattle.laws.specs.Zeros.{+0, +1}
 use Rattle.laws.specs.Matrix.{Mat}
-use Rattle.pfaffian.specs.Shot.{drawFrom, modeOf, shotOf}
+use Rattle.laws.specs.Tables.{modeAt}
+use Rattle.pfaffian.specs.Shot.{drawFrom, shotOf}
 use Rattle.pfaffian.specs.declared.shots.Words.{Words}
 use Rattle.queries.specs.Lists.{first}
 
@@ -31,7 +32,7 @@ badDrawOf used draws = first (λ i. not (drawOkOf (getD draws i nan))) used
 
 -- shot i, by the draws from i * n on
 abbrev pub shotAt : Mat → ℕ → List ℕ → List Float → ℕ → Words
-shotAt e n modes draws i = shotOf e n (drawFrom draws (i * n)) (modeOf modes)
+shotAt e n modes draws i = shotOf e n (drawFrom draws (i * n)) (modeAt modes)
 
 -- word 0 or 1 of a shot
 abbrev pub wordAt : Words → ℕ → ℕ

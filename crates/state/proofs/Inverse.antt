@@ -9,14 +9,14 @@ use native.Mathlib.Nat.{le-refl, not-suc-le-zero}
 use native.Mathlib.Omega.{arith}
 use lib.Dec.{eqb}
 use borrow.Author.Tests.{eq-eqb, ne-eqb, eqb-true, lt-ltb}
-use Rattle.laws.specs.Tables.{exchanged}
+use Rattle.laws.specs.Tables.{exchanged, modeAt}
 use Rattle.laws.specs.Tests.{allBelow}
 use Rattle.laws.specs.Views.{seek}
 use Rattle.laws.proofs.Tests.{all-of}
 use Rattle.laws.proofs.Cases.{lt-or-le, eq-or-ne}
 use Rattle.laws.proofs.Tables.{exchanged-first, exchanged-second, exchanged-away, exchanged-twice, exchanged-below}
 use Rattle.laws.proofs.Views.{seek-fails, seek-passes, seek-gap}
-use Rattle.state.specs.Modes.{modeAt, modeOk, isPermutation, qubitAt}
+use Rattle.state.specs.Modes.{modeOk, isPermutation, qubitAt}
 use Rattle.state.proofs.Permutations.{mode-below, mode-one}
 
 -- ---- counting

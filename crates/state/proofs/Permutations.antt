@@ -13,9 +13,10 @@ use lib.ListN.{length, getD, set, length-set}
 use lib.Seq.{getD-set-same, getD-set-other}
 use borrow.Author.Tests.{eq-eqb, ne-eqb, eqb-true, lt-ltb, ltb-true, leb-true}
 use Rattle.laws.specs.Tests.{allBelow}
+use Rattle.laws.specs.Tables.{modeAt}
 use Rattle.laws.proofs.Cases.{lt-or-le, eq-or-ne}
 use Rattle.laws.proofs.Tests.{and-left, and-right, all-each, all-of}
-use Rattle.state.specs.Modes.{modeAt, unused, modeOk, isPermutation}
+use Rattle.state.specs.Modes.{unused, modeOk, isPermutation}
 
 -- ---- the marks: mode k is marked exactly if a qubit before q has it
 

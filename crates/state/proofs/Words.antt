@@ -13,9 +13,10 @@ use lib.Dec.{eqb}
 use lib.ListN.{length}
 use lib.Pow.{pow-pos, pow-lt, pow-add, suc-ones, ones-lt, high, shl-shr, shr-lt, shr-shr}
 use borrow.Author.Tests.{eq-eqb, ne-eqb, le-leb}
+use Rattle.laws.specs.Tables.{modeAt}
 use Rattle.laws.specs.Tests.{allBelow}
 use Rattle.laws.proofs.Cases.{lt-or-le, eq-or-ne}
-use Rattle.state.specs.Modes.{modeAt, modeOk, isPermutation}
+use Rattle.state.specs.Modes.{modeOk, isPermutation}
 use Rattle.state.proofs.Inverse.{every-met, qubit-below, qubit-mode}
 
 -- ---- the bits of a word

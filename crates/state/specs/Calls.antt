@@ -7,10 +7,10 @@ use lib.Dec.{ltb}
 use lib.Ieee.{Float}
 use Rattle.laws.specs.Zeros.{+0}
 use Rattle.laws.specs.Matrix.{Mat}
+use Rattle.laws.specs.Tables.{modeAt}
 use Rattle.state.specs.Bounds.{dimOf}
 use Rattle.state.specs.State.{stateAt, get}
 use Rattle.state.specs.Operation.{decodeOf, applied}
-use Rattle.state.specs.Modes.{modeAt}
 use Rattle.state.specs.Questions.{stateOk}
 use Rattle.state.specs.Answers.{Told, accepted, refused}
 use Rattle.state.specs.declared.operation.Decoded.{Decoded}

@@ -3,13 +3,10 @@ use mathlib.Core.Bool.{Bool, not, _&&_}
 use mathlib.Core.List.{List}
 use Prim.Native.Nat.{ℕ, _-_}
 use lib.Dec.{eqb, leb, ltb}
-use lib.ListN.{getD, length}
+use lib.ListN.{length}
 use Rattle.laws.specs.Views.{seek}
 use Rattle.laws.specs.Tests.{allBelow}
-
--- the mode of qubit q
-abbrev pub modeAt : List ℕ → ℕ → ℕ
-modeAt l q = getD l q 0
+use Rattle.laws.specs.Tables.{modeAt}
 
 -- no qubit before q has mode k
 abbrev pub unused : List ℕ → ℕ → ℕ → Bool

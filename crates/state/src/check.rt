@@ -5,8 +5,9 @@ ghost use Prim.Native.Nat.{_-_, _^_, _≤_, _<_};
 ghost use lib.Dec.{eqb};
 ghost use lib.ListN.{length};
 ghost use Rattle.laws.specs.Tests.{allBelow};
+ghost use Rattle.laws.specs.Tables.{modeAt};
 ghost use Rattle.state.specs.Bounds.{maxQubits};
-ghost use Rattle.state.specs.Modes.{modeAt, modeOk, isPermutation};
+ghost use Rattle.state.specs.Modes.{modeOk, isPermutation};
 ghost use Rattle.state.specs.Questions.{stateOk};
 ghost use Rattle.state.specs.Parts.{NoMarks};
 

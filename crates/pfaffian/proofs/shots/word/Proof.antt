@@ -5,13 +5,14 @@ use native.Mathlib.Nat.{le-trans}
 use native.Mathlib.Omega.{arith}
 use lib.Pow.{pow-mono}
 use borrow.Author.Needs.{needs}
-use Rattle.pfaffian.specs.Shot.{modeOf, qubitBit, wordOf}
+use Rattle.laws.specs.Tables.{modeAt}
+use Rattle.pfaffian.specs.Shot.{qubitBit, wordOf}
 use Rattle.pfaffian.proofs.Listing.{word-turn, word-below}
 use Rattle.pfaffian.proofs.shots.word.Statement.{statement}
 use Rattle.pfaffian.proofs.shots.word.Tie as tie
 
 abbrev Inv-loop : tie.InvT-loop
-Inv-loop bits modes n low w₀ i₀ w i = (i ≤ 64) × (w ≡ wordOf (qubitBit (modeOf modes) n bits) (low + i) (64 - i))
+Inv-loop bits modes n low w₀ i₀ w i = (i ≤ 64) × (w ≡ wordOf (qubitBit (modeAt modes) n bits) (low + i) (64 - i))
 
 abbrev μ-loop : tie.MeasureT-loop
 μ-loop bits modes n low w₀ i₀ w i = i
@@ -47,7 +48,7 @@ returns c =
     let z : l .i ≡ 0 = omega arith in
     let s : e .args .low + l .i ≡ e .args .low = omega arith in
     let n : 64 - l .i ≡ 64 = omega arith in
-    l .inv .1 ∙ (λ t. wordOf (qubitBit (modeOf (e .args .modes .now)) (e .args .n) (e .args .bits .now)) (s t) (n t))
+    l .inv .1 ∙ (λ t. wordOf (qubitBit (modeAt (e .args .modes .now)) (e .args .n) (e .args .bits .now)) (s t) (n t))
 
 pub word-spec : {M : Type 1} → statement M
 word-spec =

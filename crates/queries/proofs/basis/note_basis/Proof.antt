@@ -5,7 +5,7 @@ use Prim.Native.Nat.{ℕ, suc, _-_, _≤_, _<_}
 use native.Mathlib.Omega.{arith}
 use borrow.Author.Needs.{needs}
 use lib.ListN.{length, length-set}
-use Rattle.state.specs.Modes.{modeAt}
+use Rattle.laws.specs.Tables.{modeAt}
 use Rattle.state.proofs.Permutations.{table-long, mode-below, mode-one}
 use Rattle.queries.specs.Lists.{noted}
 use Rattle.queries.specs.Basis.{basisBitOf}

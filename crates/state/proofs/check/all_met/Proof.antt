@@ -5,7 +5,8 @@ use Prim.Native.Nat.{_+_, _-_, _%_, _≤_, _<_}
 use native.Mathlib.Omega.{arith}
 use borrow.Author.Needs.{needs}
 use borrow.Author.Tests.{le-ltb}
-use Rattle.state.specs.Modes.{modeAt, modeOk}
+use Rattle.laws.specs.Tables.{modeAt}
+use Rattle.state.specs.Modes.{modeOk}
 use Rattle.laws.proofs.Tests.{all-fails}
 use Rattle.state.proofs.Words.{Words, words-first, words-more, words-all}
 use Rattle.state.proofs.check.all_met.Statement.{statement}

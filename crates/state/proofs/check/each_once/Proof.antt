@@ -8,8 +8,9 @@ use borrow.Author.Needs.{needs}
 use lib.ListN.{length, length-set}
 use borrow.Author.Tests.{le-ltb}
 use Rattle.laws.specs.Tests.{allBelow}
+use Rattle.laws.specs.Tables.{modeAt}
 use Rattle.laws.proofs.Tests.{all-more, all-fails}
-use Rattle.state.specs.Modes.{modeAt, modeOk}
+use Rattle.state.specs.Modes.{modeOk}
 use Rattle.state.proofs.Permutations.{Marked, marked-none, marked-more, mark-used, mark-fresh}
 use Rattle.state.proofs.check.each_once.Statement.{statement}
 use Rattle.state.proofs.check.each_once.Tie as tie

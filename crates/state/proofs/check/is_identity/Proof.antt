@@ -10,8 +10,8 @@ use borrow.Author.Needs.{needs}
 use borrow.Author.Tests.{eq-eqb, ne-eqb}
 use lib.Dec.{eqb}
 use Rattle.laws.specs.Tests.{allBelow}
+use Rattle.laws.specs.Tables.{modeAt}
 use Rattle.laws.proofs.Tests.{all-next, all-fails}
-use Rattle.state.specs.Modes.{modeAt}
 use Rattle.state.proofs.check.is_identity.Statement.{statement}
 use Rattle.state.proofs.check.is_identity.Tie as tie
 

@@ -3,7 +3,7 @@ use mathlib.Core.Path.{sym, _∙_}
 use Prim.Native.Nat.{_<_}
 use native.Mathlib.Omega.{arith}
 use borrow.Author.Tests.{lt-ltb, le-ltb}
-use Rattle.state.specs.Modes.{modeAt}
+use Rattle.laws.specs.Tables.{modeAt}
 use Rattle.state.specs.Answers.{told, refusal}
 use Rattle.state.specs.Calls.{expectationZOf}
 use Rattle.state.proofs.Permutations.{table-long, mode-below}
