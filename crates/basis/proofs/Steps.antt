@@ -13,6 +13,7 @@ use lib.Ieee.Fits.{mul-fits}
 use Rattle.laws.specs.Zeros.{+0, +1}
 use Rattle.laws.specs.Dyadic.{Dy}
 use Rattle.laws.specs.Tables.{modeAt}
+use Rattle.laws.specs.Bounds.{maxQubits}
 use Rattle.real.specs.Maps.{entry2, entry4}
 use Rattle.gate.specs.declared.complex.Complex.{Complex}
 use Rattle.gate.specs.declared.matrix.Mat2.{Mat2}
@@ -23,7 +24,7 @@ use Rattle.monomial.specs.Phase.{Phase}
 use Rattle.monomial.specs.Monomial.{unit, IsEntry, flip, Mono2, Mono4, Has2, Has4, bitA, bitB, Fits}
 use Rattle.monomial.specs.Basis.{basis}
 use Rattle.monomial.proofs.States.{fits-state, single-state, rotation-state}
-use Rattle.state.specs.Bounds.{maxQubits, dimOf}
+use Rattle.state.specs.Bounds.{dimOf}
 use Rattle.state.specs.State.{State, Stored, stateAt, vacuum, get}
 use Rattle.state.specs.Det.{odd}
 use Rattle.state.specs.Operation.{effect}

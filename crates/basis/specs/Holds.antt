@@ -9,8 +9,9 @@ use lib.Ieee.{binary64, fits}
 use Rattle.laws.specs.Zeros.{+1, sg}
 use Rattle.laws.specs.Matrix.{Mat}
 use Rattle.laws.specs.Tables.{modeAt}
+use Rattle.laws.specs.Bounds.{maxQubits}
 use Rattle.monomial.specs.Basis.{IsBasis}
-use Rattle.state.specs.Bounds.{maxQubits, dimOf}
+use Rattle.state.specs.Bounds.{dimOf}
 use Rattle.state.specs.State.{State}
 use Rattle.state.specs.Modes.{isPermutation}
 

@@ -9,10 +9,11 @@ use lib.ListN.{getD, length}
 use lib.Ieee.{Float}
 use borrow.Author.Tests.{le-leb}
 use Rattle.laws.specs.Zeros.{+0}
+use Rattle.laws.specs.Bounds.{maxQubits}
 use Rattle.laws.proofs.Tests.{and-left, and-right}
 use Rattle.tape.specs.Parse.{Content, accepted, parse}
 use Rattle.tape.specs.declared.header.Header.{Header}
-use Rattle.state.specs.Bounds.{maxQubits, dimOf, statePlaces}
+use Rattle.state.specs.Bounds.{dimOf, statePlaces}
 use Rattle.state.specs.State.{stored}
 use Rattle.state.specs.Questions.{stateOk}
 use Rattle.state.specs.Answers.{refused}

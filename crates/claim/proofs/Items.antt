@@ -7,6 +7,7 @@ use Prim.Native.Nat.{ℕ, _<_, _≤_}
 use lib.ListN.{length}
 use lib.Ieee.{Float}
 use Rattle.laws.specs.Lists.{All}
+use Rattle.laws.specs.Bounds.{maxQubits}
 use Rattle.gate.specs.declared.matrix.Mat4.{Mat4}
 use Rattle.majorana.specs.Diagonal.{interactionOf, unitOf}
 use Rattle.monomial.specs.Monomial.{Mono4, Has4}
@@ -15,7 +16,6 @@ use Rattle.resolve.specs.Items.{Item, one, two, opaque}
 use Rattle.detect.specs.Counts.{twoShare}
 use Rattle.detect.specs.Operation.{interaction}
 use Rattle.detect.specs.Emit.{rotationsOf, twoOperations, itemOperations, operationsOf}
-use Rattle.state.specs.Bounds.{maxQubits}
 use Rattle.state.specs.State.{State, vacuum}
 use Rattle.basis.specs.Holds.{Holds}
 use Rattle.basis.proofs.Steps.{vacuum-holds}

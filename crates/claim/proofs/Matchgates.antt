@@ -8,6 +8,7 @@ use Prim.Native.Nat.{ℕ, _+_, _-_, _<_, _≤_}
 use native.Mathlib.Omega.{arith}
 use lib.Dec.{eqb, ltb}
 use borrow.Author.Tests.{ltb-true, ltb-false, eqb-true}
+use Rattle.laws.specs.Bounds.{maxQubits}
 use Rattle.laws.proofs.Tables.{update-here, update-away, two-first, two-second, two-away}
 use Rattle.gate.specs.Matrix.{mat4SwapQubitsOf}
 use Rattle.gate.specs.declared.matrix.Mat2.{Mat2}
@@ -19,7 +20,6 @@ use Rattle.monomial.proofs.Algebra.{renamed-has, renamed-fits}
 use Rattle.order.specs.Arrangement.{besideOf}
 use Rattle.detect.specs.Emit.{orientedOf, lowerOf}
 use Rattle.detect.specs.Operation.{one, two}
-use Rattle.state.specs.Bounds.{maxQubits}
 use Rattle.state.specs.State.{State}
 use Rattle.basis.specs.Holds.{Holds}
 use Rattle.basis.proofs.Steps.{one-holds, two-holds}

@@ -2,11 +2,11 @@
 use mathlib.Core.Path.{_≡_, refl, ap}
 use mathlib.Core.List.{List, [], _∷_, _++_}
 use Prim.Native.Nat.{ℕ, _+_, _<_, _≤_}
+use Rattle.laws.specs.Bounds.{maxQubits}
 use Rattle.real.specs.declared.maps.Map2.{Map2}
 use Rattle.real.specs.declared.maps.Map4.{Map4}
 use Rattle.gate.specs.declared.complex.Complex.{Complex}
 use Rattle.detect.specs.Operation.{Operation, one, two, interaction, placesOf}
-use Rattle.state.specs.Bounds.{maxQubits}
 use Rattle.state.specs.State.{State}
 use Rattle.state.specs.Operation.{effect, decodeOf}
 use Rattle.state.specs.declared.operation.Operation.the-variants.{One, Two}

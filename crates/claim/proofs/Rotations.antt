@@ -3,6 +3,7 @@ use mathlib.Core.Path.{_≡_, sym, _∙_, subst}
 use mathlib.Core.Bool.{Bool, true, false, not, cond, _&&_}
 use mathlib.Core.List.{[], _∷_, _++_}
 use Prim.Native.Nat.{ℕ, _<_, _≤_}
+use Rattle.laws.specs.Bounds.{maxQubits}
 use Rattle.gate.specs.declared.complex.Complex.{Complex}
 use Rattle.gate.specs.declared.matrix.Mat4.{Mat4}
 use Rattle.majorana.specs.Diagonal.{phaseAOf, phaseBOf, unitOf, rotationOf, rotationMapOf}
@@ -16,7 +17,6 @@ use Rattle.monomial.proofs.Diagonals.{diagonal, phase-a, phase-b}
 use Rattle.monomial.proofs.Rotations.{rotation-is}
 use Rattle.detect.specs.Emit.{rotated, rotationsOf}
 use Rattle.detect.specs.Operation.{interaction}
-use Rattle.state.specs.Bounds.{maxQubits}
 use Rattle.state.specs.State.{State}
 use Rattle.basis.specs.Holds.{Holds}
 use Rattle.basis.proofs.Steps.{rotation-holds}

@@ -8,8 +8,8 @@ use lib.Dec.{eqb}
 use lib.ListN.{length}
 use borrow.Author.Tests.{ne-eqb, lt-ltb, le-leb}
 use Rattle.laws.specs.Tables.{modeAt}
+use Rattle.laws.specs.Bounds.{maxQubits}
 use Rattle.laws.proofs.Tests.{all-of}
-use Rattle.tape.specs.Bounds.{maxQubits}
 use Rattle.tape.specs.Parse.{Content, accepted, parse}
 use Rattle.tape.specs.declared.header.Header.{Header}
 use Rattle.tape.specs.declared.gates.Gate.{Gate}

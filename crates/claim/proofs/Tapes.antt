@@ -6,8 +6,8 @@ use mathlib.Core.List.{List, []}
 use Prim.Native.Nat.{ℕ, _<_, _≤_}
 use lib.ListN.{getD}
 use borrow.Author.Tests.{eqb-true}
+use Rattle.laws.specs.Bounds.{maxQubits}
 use Rattle.laws.proofs.Lists.{all-map}
-use Rattle.tape.specs.Bounds.{maxQubits}
 use Rattle.tape.specs.Parse.{Content, accepted, parse}
 use Rattle.tape.specs.declared.header.Header.{Header}
 use Rattle.tape.specs.declared.gates.Gate.{Gate}

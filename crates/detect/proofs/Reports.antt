@@ -5,8 +5,8 @@ use mathlib.Core.List.{List, List·Memᴰ}
 use Prim.Native.Nat.{ℕ, _+_, _≤_, _<_}
 use lib.ListN.{length, getD}
 use borrow.Author.Tests.{eq-eqb}
+use Rattle.laws.specs.Bounds.{maxQubits}
 use Rattle.gate.specs.Complex.{f1}
-use Rattle.tape.specs.Bounds.{maxQubits}
 use Rattle.tape.specs.Good.{GoodGate}
 use Rattle.tape.specs.declared.header.Header.{Header}
 use Rattle.tape.specs.declared.gates.Gate.{Gate}

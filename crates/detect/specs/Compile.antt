@@ -7,9 +7,10 @@ use lib.Dec.{eqb, ltb}
 use lib.ListN.{length, getD}
 use lib.Ieee.{Float}
 use Rattle.laws.specs.Slices.{filled}
+use Rattle.laws.specs.Bounds.{maxQubits, opPlaces}
 use Rattle.gate.specs.Complex.{f0}
 use Rattle.work.specs.Columns.{matchItem}
-use Rattle.tape.specs.Bounds.{maxQubits, maxGates}
+use Rattle.tape.specs.Bounds.{maxGates}
 use Rattle.tape.specs.Parse.{Parsed, refused, accepted, parse}
 use Rattle.tape.specs.declared.header.Header.{Header}
 use Rattle.tape.specs.declared.gates.Gate.{Gate}
@@ -25,7 +26,7 @@ use Rattle.detect.specs.declared.count.Counts.{Counts}
 use Rattle.detect.specs.declared.report.Report.{Report}
 use Rattle.detect.specs.declared.report.Answer.{Answer}
 use Rattle.detect.specs.declared.report.Compiled.{Compiled}
-use Rattle.detect.specs.Operation.{Operation, opPlaces, written}
+use Rattle.detect.specs.Operation.{Operation, written}
 use Rattle.detect.specs.Emit.{operationsOf}
 use Rattle.detect.specs.Counts.{countsOf}
 use Rattle.detect.specs.Report.{table, freeOf, reportOf, noReport}

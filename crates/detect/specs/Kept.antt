@@ -8,6 +8,7 @@ use lib.Dec.{eqb}
 use lib.ListN.{length, getD, take, drop}
 use lib.Seq.{paste}
 use lib.Ieee.{Float, nan}
+use Rattle.laws.specs.Bounds.{opPlaces}
 use Rattle.gate.specs.declared.matrix.Mat4.{Mat4}
 use Rattle.work.specs.Marks.{markAt}
 use Rattle.work.specs.Columns.{kindColumn, aColumn, bColumn, matchItem}
@@ -15,7 +16,7 @@ use Rattle.majorana.specs.Majorana.{majoranaMap2Of}
 use Rattle.order.specs.Arrangement.{besideOf}
 use Rattle.fuse.specs.Layout.{matrix4Of}
 use Rattle.detect.specs.declared.count.Counts.{Counts}
-use Rattle.detect.specs.Operation.{opPlaces, twoPlaces}
+use Rattle.detect.specs.Operation.{twoPlaces}
 use Rattle.detect.specs.Emit.{orientedOf, lowerOf}
 use Rattle.detect.specs.Records.{modesIn}
 

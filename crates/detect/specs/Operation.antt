@@ -7,13 +7,8 @@ use lib.ListN.{length, take, drop}
 use lib.Ieee.{Float, binary64, ofBits, ofInt}
 use Rattle.real.specs.declared.maps.Map2.{Map2}
 use Rattle.real.specs.declared.maps.Map4.{Map4}
-use Rattle.gate.specs.Complex.{f0, f1}
+use Rattle.gate.specs.Complex.{f0, f1, f2}
 use Rattle.gate.specs.declared.complex.Complex.{Complex}
-use Rattle.majorana.specs.Majorana.{f2}
-
--- "18 places per operation"
-abbrev pub opPlaces : ℕ
-opPlaces = 18
 
 pub data Operation : Type 0 where
   -- mode, map

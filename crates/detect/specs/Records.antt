@@ -5,9 +5,9 @@ use Prim.Native.Nat.{ℕ, _+_, _*_, _<_, _≤_}
 use lib.Dec.{eqb, leb}
 use lib.ListN.{length}
 use lib.Ieee.{Float}
+use Rattle.laws.specs.Bounds.{maxQubits}
 use Rattle.work.specs.Marks.{markAt, column, Records}
 use Rattle.work.specs.Columns.{kindColumn, aColumn, bColumn, labColumn, contentColumn, posColumn, oneItem, opaqueItem}
-use Rattle.tape.specs.Bounds.{maxQubits}
 use Rattle.fuse.specs.Layout.{matrix2Of, matrix4Of}
 use Rattle.detect.specs.declared.count.Counts.{Counts}
 use Rattle.resolve.specs.Items as Items

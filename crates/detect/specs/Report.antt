@@ -5,8 +5,8 @@ use Prim.Native.Nat.{ℕ}
 use lib.Dec.{eqb, ltb}
 use lib.Ieee.{Float, binary64, div}
 use Rattle.laws.specs.Views.{listOf}
+use Rattle.laws.specs.Bounds.{maxQubits}
 use Rattle.gate.specs.Complex.{f0, f1}
-use Rattle.tape.specs.Bounds.{maxQubits}
 use Rattle.order.specs.declared.choice.Ordering.{Ordering}
 use Rattle.detect.specs.declared.count.Counts.{Counts}
 use Rattle.detect.specs.declared.report.Report.{Report}

@@ -1,6 +1,6 @@
 // The report of an accepted tape, from its gates to the counts; the lent work holds the items and the order afterwards.
 ghost use Prim.Native.Nat.{_+_, _≤_};
-ghost use Rattle.tape.specs.Bounds.{maxQubits};
+ghost use Rattle.laws.specs.Bounds.{maxQubits};
 ghost use Rattle.tape.specs.Parse.{gatesOf};
 ghost use Rattle.fuse.specs.Layout.{Space};
 ghost use Rattle.fuse.specs.Slotted.{Gates};

@@ -1,8 +1,8 @@
 // Order, path starts and modes of the qubits as tables of fixed length.
 ghost use mathlib.Core.Path.{_≡_};
 ghost use Prim.Native.Nat.{_<_, _≤_};
+ghost use Rattle.laws.specs.Bounds.{maxQubits};
 ghost use Rattle.work.specs.Marks.{Records, column};
-ghost use Rattle.tape.specs.Bounds.{maxQubits};
 ghost use Rattle.detect.specs.Report.{table};
 ghost use Rattle.detect.specs.Records.{qubitMode, ColumnBelow, QubitThere, QubitsThere};
 use tape::MAX_QUBITS;

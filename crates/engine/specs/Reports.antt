@@ -8,7 +8,8 @@ use lib.Dec.{leb}
 use lib.ListN.{length, getD, set}
 use lib.Ieee.{Float}
 use Rattle.laws.specs.Slices.{putRow}
-use Rattle.tape.specs.Bounds.{maxQubits}
+use Rattle.laws.specs.Bounds.{maxQubits}
+use Rattle.order.specs.Slice.{flag}
 use Rattle.order.specs.declared.choice.Ordering.{Ordering}
 use Rattle.order.specs.declared.choice.Ordering.the-variants.{Identity, Paths, Greedy}
 use Rattle.detect.specs.declared.report.Report.{Report}
@@ -28,9 +29,6 @@ placeOf Done = 0
 placeOf (Refused number place) = place
 
 -- ---- the report
-
-abbrev pub flag : Bool → ℕ
-flag b = cond b 1 0
 
 -- "an enum: identity, paths or greedy"
 abbrev pub orderingWord : Ordering → ℕ

@@ -6,11 +6,11 @@ use native.Mathlib.Omega.{arith}
 use lib.Dec.{eqb}
 use lib.Ieee.{ofBits, eq}
 use borrow.Author.Tests.{ne-eqb}
+use Rattle.laws.specs.Bounds.{maxQubits}
 use Rattle.real.specs.declared.maps.Map2.{Map2}
 use Rattle.real.specs.declared.maps.Map4.{Map4}
 use Rattle.gate.specs.declared.complex.Complex.{Complex}
 use Rattle.detect.specs.Operation.{one, two, interaction, placesOf}
-use Rattle.state.specs.Bounds.{maxQubits}
 use Rattle.state.specs.Operation.{interactionOf, oneOf, twoOf, decodeOf}
 use Rattle.state.specs.declared.operation.Operation.the-variants.{One, Two}
 use Rattle.state.specs.declared.operation.Decoded.the-variants.{Good}

@@ -7,9 +7,10 @@ use native.Mathlib.Omega.{arith}
 use lib.ListN.{length, take, drop}
 use lib.Seq.{take-at, drop-at, drop-drop}
 use lib.Ieee.{Float}
+use Rattle.laws.specs.Bounds.{opPlaces}
 use Rattle.detect.specs.Operation.{Operation, placesOf, allPlaces, written}
 use Rattle.detect.proofs.Placing.{length-places}
-use Rattle.state.specs.Bounds.{opPlaces, dimOf, statePlaces}
+use Rattle.state.specs.Bounds.{dimOf, statePlaces}
 use Rattle.state.specs.State.{State, stored, vacuum}
 use Rattle.state.specs.Operation.{decodeOf, Fits}
 use Rattle.state.specs.Calls.{decodedState}

@@ -10,6 +10,7 @@ use lib.Dec.{eqb}
 use lib.ListN.{length}
 use lib.Ieee.{Float}
 use borrow.Author.Tests.{eqb-true, lt-ltb, le-ltb}
+use Rattle.laws.specs.Bounds.{maxQubits}
 use Rattle.laws.proofs.Cases.{lt-or-le}
 use Rattle.laws.proofs.Lists.{all-append}
 use Rattle.gate.specs.Complex.{f0}
@@ -31,7 +32,6 @@ use Rattle.detect.specs.Counts.{gaussian, interacting, bad, apart, adjacentShar
 use Rattle.detect.specs.Report.{freeOf}
 use Rattle.detect.specs.Compile.{reordersOf, matchPairs, itemsOf, orderOf, modeOf, tallyOf, programOf}
 use Rattle.detect.proofs.Wires.{wires-items}
-use Rattle.state.specs.Bounds.{maxQubits}
 use Rattle.state.specs.Operation.{decodeOf}
 use Rattle.state.specs.declared.operation.Operation as state
 use Rattle.state.specs.declared.operation.Decoded.the-variants.{Good}

@@ -4,8 +4,8 @@ use Prim.Native.Nat.{ℕ, zero, suc, _+_, _<_}
 use lib.ListN.{take, drop}
 use lib.Ieee.{Float}
 use Rattle.laws.specs.Lists.{All}
+use Rattle.laws.specs.Bounds.{opPlaces}
 use Rattle.detect.specs.Operation.{Operation, one, two, interaction, placesOf}
-use Rattle.state.specs.Bounds.{opPlaces}
 use Rattle.state.specs.State.{State, vacuum}
 use Rattle.state.specs.Operation.{decodeOf, effect}
 use Rattle.state.specs.declared.operation.Decoded.{Decoded}

@@ -3,7 +3,8 @@
 ghost use mathlib.Core.Path.{_≡_};
 ghost use Prim.Native.Nat.{_*_, _≤_};
 ghost use lib.ListN.{length};
-ghost use Rattle.state.specs.Bounds.{opPlaces, dimOf};
+ghost use Rattle.laws.specs.Bounds.{opPlaces};
+ghost use Rattle.state.specs.Bounds.{dimOf};
 ghost use Rattle.state.specs.State.{stored};
 ghost use Rattle.state.specs.State as spec;
 ghost use Rattle.state.specs.Parts.{HasState};

@@ -30,12 +30,15 @@ conjOf a = record { re = a .re; im = neg (a .im) }
 abbrev pub normSqrOf : Complex → Float
 normSqrOf a = add binary64 (mul binary64 (a .re) (a .re)) (mul binary64 (a .im) (a .im))
 
--- 0.0 and 1.0
+-- 0.0, 1.0 and 2.0
 abbrev pub f0 : Float
 f0 = ofBits binary64 0
 
 abbrev pub f1 : Float
 f1 = ofBits binary64 0x3ff0_0000_0000_0000
+
+abbrev pub f2 : Float
+f2 = ofBits binary64 0x4000_0000_0000_0000
 
 -- the number with these parts
 abbrev pub cx : Float → Float → Complex

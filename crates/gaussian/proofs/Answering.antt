@@ -8,11 +8,12 @@ use native.Mathlib.Omega.{arith}
 use lib.ListN.{length}
 use lib.Ieee.{Float}
 use borrow.Author.Tests.{lt-ltb, le-ltb, eq-eqb}
+use Rattle.laws.specs.Bounds.{opPlaces}
 use Rattle.tape.specs.Parse.{Content, Parsed, refused, accepted, contentOf, checkedOf}
 use Rattle.tape.specs.declared.check.Checked.the-variants.{Good, Refused}
 use Rattle.tape.specs.declared.header.Header.{Header}
 use Rattle.detect.specs.declared.report.Report.{Report}
-use Rattle.detect.specs.Operation.{opPlaces, allPlaces, written}
+use Rattle.detect.specs.Operation.{allPlaces, written}
 use Rattle.detect.specs.Emit.{operationsIn}
 use Rattle.detect.specs.Report.{reportOf}
 use Rattle.detect.specs.Kept.{Kept}

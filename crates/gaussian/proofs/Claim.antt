@@ -6,10 +6,10 @@ use Prim.Native.Nat.{ℕ, _*_, _≤_}
 use lib.ListN.{length}
 use lib.Ieee.{Float}
 use borrow.Author.Tests.{eq-eqb}
+use Rattle.laws.specs.Bounds.{opPlaces}
 use Rattle.tape.specs.Parse.{Content, contentOf}
 use Rattle.tape.specs.declared.header.Header.{Header}
 use Rattle.detect.specs.declared.report.Compiled.{Compiled}
-use Rattle.detect.specs.Operation.{opPlaces}
 use Rattle.detect.specs.Report.{reportOf}
 use Rattle.detect.specs.Compile.{tallyOf, reportedOf}
 use Rattle.detect.proofs.Reports.{operations-told}

@@ -10,13 +10,13 @@ use lib.Dec.{ltb}
 use lib.ListN.{length}
 use lib.Ieee.{Float}
 use borrow.Author.Tests.{le-ltb, lt-ltb, eq-eqb, ne-eqb}
+use Rattle.laws.specs.Bounds.{opPlaces}
 use Rattle.tape.specs.Parse.{Content, accepted, parse}
 use Rattle.tape.specs.declared.header.Header.{Header}
 use Rattle.tape.specs.declared.gates.Gate.{Gate}
 use Rattle.detect.specs.declared.report.Report.{Report}
 use Rattle.detect.specs.declared.report.Answer.{Answer}
 use Rattle.detect.specs.declared.report.Compiled.{Compiled}
-use Rattle.detect.specs.Operation.{opPlaces}
 use Rattle.detect.specs.Report.{freeOf, reportOf}
 use Rattle.detect.specs.Compile.{itemsOf, modeOf, tallyOf, reportedOf, floatsOf, marksOf, hasWork, refusal, done}
 use Rattle.detect.proofs.Sums.{counts-add}

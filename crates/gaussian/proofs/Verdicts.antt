@@ -5,9 +5,9 @@ use Prim.Native.Nat.{ℕ, _*_, _≤_, _<_}
 use native.Mathlib.Omega.{arith}
 use lib.Dec.{ltb}
 use borrow.Author.Tests.{le-ltb, ltb-false, eq-eqb}
+use Rattle.laws.specs.Bounds.{opPlaces}
 use Rattle.tape.specs.declared.header.Header.{Header}
 use Rattle.detect.specs.declared.report.Report.{Report}
-use Rattle.detect.specs.Operation.{opPlaces}
 use Rattle.state.specs.Bounds.{dimOf, statePlaces}
 use Rattle.gaussian.specs.Run.{allApart, interacts, bytesOf, verdictOf}
 

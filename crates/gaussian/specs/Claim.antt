@@ -6,10 +6,10 @@ use mathlib.Core.List.{List, List·Memᴰ}
 use Prim.Native.Nat.{ℕ, _*_, _≤_}
 use lib.ListN.{length}
 use lib.Ieee.{Float}
+use Rattle.laws.specs.Bounds.{opPlaces}
 use Rattle.tape.specs.Parse.{accepted, Content, parse, gatesOf}
 use Rattle.tape.specs.declared.header.Header.{Header}
 use Rattle.tape.specs.declared.gates.Gate.{Gate}
-use Rattle.detect.specs.Operation.{opPlaces}
 use Rattle.detect.specs.Compile.{hasWork, programOf}
 use Rattle.detect.specs.declared.report.Answer.{Answer}
 use Rattle.detect.specs.declared.report.Compiled.{Compiled}

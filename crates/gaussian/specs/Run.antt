@@ -6,11 +6,12 @@ use Prim.Native.Nat.{ℕ, _*_, _/_, _%_}
 use lib.Dec.{eqb, ltb}
 use lib.ListN.{length}
 use lib.Ieee.{Float}
+use Rattle.laws.specs.Bounds.{opPlaces}
 use Rattle.tape.specs.Parse.{Parsed, Content, refused, accepted, parse, contentOf}
 use Rattle.tape.specs.declared.header.Header.{Header}
 use Rattle.detect.specs.declared.report.Report.{Report}
 use Rattle.detect.specs.declared.report.Compiled.{Compiled}
-use Rattle.detect.specs.Operation.{opPlaces, written}
+use Rattle.detect.specs.Operation.{written}
 use Rattle.detect.specs.Compile.{hasWork, reportedOf, programOf, refusal, done, compiledWork, compiledMarks}
 use Rattle.state.specs.Bounds.{dimOf, statePlaces}
 use Rattle.state.specs.State.{stored}

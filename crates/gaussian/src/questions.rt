@@ -1,7 +1,7 @@
 // The questions 10 to 15, once the report is made.
 ghost use mathlib.Core.Path.{_≡_};
 ghost use Prim.Native.Nat.{_≤_};
-ghost use Rattle.tape.specs.Bounds.{maxQubits};
+ghost use Rattle.laws.specs.Bounds.{maxQubits};
 ghost use Rattle.gaussian.specs.Run.{allApart, interacts, verdictOf};
 use detect::OP_PLACES;
 use detect::Report;

@@ -4,6 +4,7 @@ pub mod Tests
 pub mod Lists
 pub mod Slices
 pub mod Tables
+pub mod Bounds
 pub mod Zeros
 pub mod Dyadic
 pub mod Matrix

@@ -8,7 +8,7 @@ use Rattle.real.specs.declared.maps.Real2.{Real2}
 use Rattle.real.specs.declared.maps.Real4.{Real4}
 use Rattle.num.specs.Order.{maxOf}
 use Rattle.num.specs.Root.{sqrtOf}
-use Rattle.gate.specs.Complex.{_+ℂ_, _-ℂ_, _*ℂ_, scaleOf, normSqrOf, f0, c0}
+use Rattle.gate.specs.Complex.{_+ℂ_, _-ℂ_, _*ℂ_, scaleOf, normSqrOf, f0, f2, c0}
 use Rattle.gate.specs.Matrix.{row4, mat4, id2, mul2Of, dag2Of, kronOf, mul4Of, dag4Of}
 use Rattle.gate.specs.Table.{gateX, gateY, gateZ}
 use Rattle.gate.specs.declared.complex.Complex.{Complex}
@@ -19,9 +19,7 @@ use Rattle.gate.specs.declared.matrix.Mat4.{Mat4}
 use Rattle.majorana.specs.declared.maps.Mapped2.{Mapped2}
 use Rattle.majorana.specs.declared.maps.Mapped4.{Mapped4}
 
-abbrev pub f2 : Float
-f2 = ofBits binary64 0x4000_0000_0000_0000
-
+-- 4.0
 abbrev pub f4 : Float
 f4 = ofBits binary64 0x4010_0000_0000_0000
 

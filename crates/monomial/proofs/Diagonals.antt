@@ -17,10 +17,9 @@ use Rattle.laws.proofs.DyadicOrder.{lt-dy}
 use Rattle.laws.proofs.DyadicFloat.{is-float}
 use Rattle.num.specs.Order.{absOf}
 use Rattle.num.proofs.Alike.{abs-dy}
-use Rattle.gate.specs.Complex.{_*ℂ_, conjOf, normSqrOf, cx, f0, f1, c1}
+use Rattle.gate.specs.Complex.{_*ℂ_, conjOf, normSqrOf, cx, f0, f1, c1, f2}
 use Rattle.gate.specs.declared.complex.Complex.{Complex}
 use Rattle.gate.specs.declared.matrix.Mat4.{Mat4}
-use Rattle.majorana.specs.Majorana.{f2}
 use Rattle.majorana.specs.Diagonal.{plusThreeOf, offSquareOf, offdiag4Of, phaseAOf, phaseBOf, interactionOf, phaseNoneOf, normOf, unitOf}
 use Rattle.majorana.specs.Classify.{diagonalOf}
 use Rattle.monomial.specs.Groups.{Four, four, Mat4Of}

@@ -5,6 +5,7 @@ use Prim.Native.Nat.{ℕ}
 use lib.IntN.{pos}
 use lib.Ieee.{Float, fin, le, lt, eq, fits, ofBits}
 use Rattle.laws.specs.Dyadic.{Dy}
+use Rattle.laws.specs.Bounds.{maxTolerance}
 use Rattle.gate.specs.Complex.{cx, f0, f1, c0, c1}
 use Rattle.gate.specs.Matrix.{row4, mat4, kronOf}
 use Rattle.gate.specs.Table.{ci, gateX, gateY, gateCz, gateSwap, gateISwap}
@@ -18,7 +19,7 @@ use Rattle.monomial.specs.Phase.{i0, i1, i2}
 use Rattle.monomial.specs.Monomial.{Mono4, Has4, bitA, bitB}
 use Rattle.monomial.specs.Basis.{basis, bits, Signed, unitAt}
 use Rattle.monomial.specs.Algebra.{monoX, monoSwap, monoISwap, monoY, kron4}
-use Rattle.monomial.specs.Tolerance.{maxTolerance, Tolerance}
+use Rattle.monomial.specs.Tolerance.{Tolerance}
 use Rattle.monomial.proofs.Known.{is}
 use Rattle.monomial.proofs.Operators.{0-is, 1-is, -1-is, i-is, entriesX, entriesZ, has-X, has-Y, operator, values2, values4, mapRow2, distance2, mapRow4, distance4}
 use Rattle.monomial.proofs.Images.{signed2, pauli, rowIs2, near2, rowIs4, near4, far4}

@@ -16,8 +16,8 @@ use Rattle.laws.proofs.Lists.{all-map}
 use Rattle.num.specs.Root.{sqrtOf}
 use Rattle.num.specs.Order.{maxOf}
 use Rattle.num.proofs.OrderLaws.{max-first, max-second}
-use Rattle.gate.specs.Complex.{f0, f1}
-use Rattle.majorana.specs.Majorana.{f2, f4, largestRootOf}
+use Rattle.gate.specs.Complex.{f0, f1, f2}
+use Rattle.majorana.specs.Majorana.{f4, largestRootOf}
 use Rattle.monomial.proofs.Complexes.{zero-is}
 use Rattle.monomial.proofs.Operators.{one-is}
 use Rattle.monomial.proofs.Traces.{two-known, four-known}

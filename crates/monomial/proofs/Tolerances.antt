@@ -9,11 +9,11 @@ use lib.Ieee.Bits.{is-true, is-false}
 use lib.Ieee.Positive.{positive, between, le-trans-positive}
 use Rattle.laws.specs.Dyadic.{Dy}
 use Rattle.laws.specs.Zeros.{nz}
+use Rattle.laws.specs.Bounds.{maxTolerance}
 use Rattle.laws.proofs.Zeros.{le-nz}
 use Rattle.laws.proofs.Dyadic.{zero-nz}
-use Rattle.gate.specs.Complex.{f0, f1}
-use Rattle.majorana.specs.Majorana.{f2}
-use Rattle.monomial.specs.Tolerance.{maxTolerance, Tolerance}
+use Rattle.gate.specs.Complex.{f0, f1, f2}
+use Rattle.monomial.specs.Tolerance.{Tolerance}
 use Rattle.monomial.proofs.Complexes.{zero-is}
 use Rattle.monomial.proofs.Roots.{√2}
 

@@ -4,13 +4,13 @@ use mathlib.Core.Path.{refl}
 use lib.Dec.{lit<}
 use lib.IntN.{pos}
 use lib.Ieee.{Float, binary64, add, ofBits}
-use Rattle.gate.specs.Complex.{_+ℂ_, _-ℂ_, _*ℂ_, normSqrOf, scaleOf, f0, c0}
+use Rattle.gate.specs.Complex.{_+ℂ_, _-ℂ_, _*ℂ_, normSqrOf, scaleOf, f0, c0, f2}
 use Rattle.gate.specs.declared.complex.Complex.{Complex}
 use Rattle.gate.specs.declared.matrix.Row2.{Row2}
 use Rattle.gate.specs.declared.matrix.Mat2.{Mat2}
 use Rattle.gate.specs.declared.matrix.Row4.{Row4}
 use Rattle.gate.specs.declared.matrix.Mat4.{Mat4}
-use Rattle.majorana.specs.Majorana.{f2, f4, traceRow2Of, trace2Of, coefficient2Of, lessRow2Of, less2Of, plusRow2Of, square2Of, column0, column1, column2, column3, traceRow4Of, trace4Of, coefficient4Of, lessRow4Of, less4Of, plusRow4Of, square4Of}
+use Rattle.majorana.specs.Majorana.{f4, traceRow2Of, trace2Of, coefficient2Of, lessRow2Of, less2Of, plusRow2Of, square2Of, column0, column1, column2, column3, traceRow4Of, trace4Of, coefficient4Of, lessRow4Of, less4Of, plusRow4Of, square4Of}
 use Rattle.monomial.specs.Groups.{Two, two, Four, four, Row2Of, Mat2Of, Row4Of, Mat4Of}
 use Rattle.monomial.proofs.Known.{Known, kn, addK, divK, IsKnown, add-known, div-known}
 use Rattle.monomial.proofs.Complexes.{Cx, cx, IsComplex, k0, reK, cadd, csub, cmul, cscale, cnorm, cxSound, csub-law, cscale-law, cnorm-law, re-law, zero-known}

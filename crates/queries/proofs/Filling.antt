@@ -15,12 +15,12 @@ use Rattle.laws.specs.Slices.{mappedTo}
 use Rattle.laws.specs.Matrix.{Mat, at, matrix, Is}
 use Rattle.laws.specs.Steps.{masked, inRow}
 use Rattle.laws.specs.Loops.{upTo, byRow, byCol}
+use Rattle.laws.specs.Bounds.{maxQubits}
 use Rattle.laws.proofs.Cases.{eq-or-ne}
 use Rattle.laws.proofs.Slices.{length-mapped, mapped-done, mapped-left}
 use Rattle.laws.proofs.Matrix.{place-in, is-matrix, matrix-is, at-set-same, at-set-other, after-set}
 use Rattle.laws.proofs.Loops.{more, up-left}
 use Rattle.laws.proofs.Sweep.{Swept, masked-on, sweep-start, sweep-store, sweep-row, sweep-done}
-use Rattle.state.specs.Bounds.{maxQubits}
 use Rattle.queries.specs.Products.{indexOf}
 use Rattle.queries.specs.Inner.{Modes, everywhere}
 use Rattle.queries.specs.Marginals.{shifted}

@@ -11,10 +11,11 @@ use lib.ListN.{length, getD, set, length-set, replicate, length-replicate, getD-
 use lib.Seq.{getD-set-same, getD-set-other}
 use borrow.Author.Tests.{eq-eqb, ne-eqb, eqb-true, lt-ltb, leb-true}
 use Rattle.laws.specs.Tests.{allBelow}
+use Rattle.laws.specs.Bounds.{maxQubits}
 use Rattle.laws.proofs.Cases.{eq-or-ne}
 use Rattle.laws.proofs.Tests.{and-left, and-right, all-each}
 use Rattle.pfaffian.specs.Shot.{bit}
-use Rattle.state.specs.Bounds.{maxQubits, dimOf}
+use Rattle.state.specs.Bounds.{dimOf}
 use Rattle.state.proofs.Questions.{square-few}
 use Rattle.queries.specs.Lists.{oddModes, modeListed, oddMode, noted, conflictsOf, contradicts, bitsOk, notedModes}
 use Rattle.queries.specs.Inner.{Marked, Listed, Modes}

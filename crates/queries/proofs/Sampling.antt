@@ -13,13 +13,13 @@ use lib.Ieee.{Float}
 use borrow.Author.Tests.{eq-eqb, ne-eqb, lt-ltb, le-ltb}
 use Rattle.laws.specs.Matrix.{Mat, at, matrix}
 use Rattle.laws.specs.Tables.{modeAt}
+use Rattle.laws.specs.Bounds.{maxQubits}
 use Rattle.laws.proofs.Cases.{eq-or-ne, lt-or-le}
 use Rattle.laws.proofs.Views.{length-listOf, getD-listOf}
 use Rattle.laws.proofs.Matrix.{matrix-is}
 use Rattle.pfaffian.specs.Shot.{drawFrom, shotOf}
 use Rattle.pfaffian.specs.declared.shots.Words.{Words}
 use Rattle.pfaffian.proofs.SameShots.{shot-same}
-use Rattle.state.specs.Bounds.{maxQubits}
 use Rattle.queries.specs.Samples.{maxShots, shotAt, wordAt, sampled}
 
 -- ---- the draws

@@ -3,7 +3,7 @@
 ghost use mathlib.Core.Path.{_≡_};
 ghost use mathlib.Core.Bool.{true};
 ghost use Prim.Native.Nat.{suc, _≤_, _<_, _%_};
-ghost use Rattle.state.specs.Bounds.{maxQubits};
+ghost use Rattle.laws.specs.Bounds.{maxQubits};
 ghost use Rattle.state.specs.Modes.{isPermutation};
 ghost use Rattle.state.specs.Answers.{told};
 ghost use Rattle.queries.specs.Basis.{wordBits, wordBit, basisBitOf, basisMark};

@@ -11,6 +11,7 @@ use lib.Ieee.{Float, nan, inf, fin, binary64, fits, isNan, lt, le, eq, below, le
 use lib.Ieee.Bits.{is-true, ofBits-fits}
 use lib.Ieee.Fits.{and-l, and-r}
 use borrow.Author.Tests.{ltb-false, lt-ltb, le-ltb, eq-eqb, not-true}
+use Rattle.laws.specs.Bounds.{maxTolerance}
 use Rattle.laws.proofs.Cases.{lt-or-le}
 use Rattle.num.specs.Bits.{le64, f64At}
 use Rattle.gate.specs.Complex.{f0}
@@ -24,7 +25,7 @@ use Rattle.tape.specs.declared.gates.Gate.{Gate}
 use Rattle.tape.proofs.HeaderLaws.{GoodHeader, HeaderIs, good, bad, header-is}
 use Rattle.tape.proofs.Walks.{walk-header}
 use Rattle.tape.proofs.GoodLaws.{gates-good}
-use Rattle.monomial.specs.Tolerance.{maxTolerance, Tolerance}
+use Rattle.monomial.specs.Tolerance.{Tolerance}
 use Rattle.fuse.specs.Relabel.{labelled, unlabelled}
 use Rattle.resolve.specs.Whole.{fuseOf}
 use Rattle.register.specs.Register.{RegisterGate, RegisterTape}

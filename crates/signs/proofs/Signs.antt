@@ -9,7 +9,8 @@ use lib.Dec.{leb}
 use lib.ListN.{length}
 use lib.Ieee.{Float}
 use Rattle.laws.specs.Zeros.{nz}
-use Rattle.state.specs.Bounds.{maxQubits, dimOf, statePlaces}
+use Rattle.laws.specs.Bounds.{maxQubits}
+use Rattle.state.specs.Bounds.{dimOf, statePlaces}
 use Rattle.state.specs.Modes.{isPermutation}
 use Rattle.state.specs.Questions.{stateOk}
 use Rattle.state.specs.State.{State, stateAt, stored, vacuum, get}

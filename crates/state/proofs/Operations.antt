@@ -12,9 +12,9 @@ use lib.ListN.{length}
 use lib.Ieee.{Float, binary64, ofBits, ofInt, toUnsigned, neg, lt, eq}
 use borrow.Author.Tests.{ltb-true, lt-ltb}
 use Rattle.laws.specs.Tests.{allBelow}
+use Rattle.laws.specs.Bounds.{maxQubits, opPlaces}
 use Rattle.real.specs.declared.maps.Map2.{Map2}
 use Rattle.real.specs.declared.maps.Map4.{Map4}
-use Rattle.state.specs.Bounds.{maxQubits, opPlaces}
 use Rattle.state.specs.Operation.{isWhole, modeOf, placeOf, map2Of, map4Of, interactionOf, kindIs, oneOf, twoOf, decodeOf, Fits}
 use Rattle.state.specs.declared.operation.Operation.{Operation}
 use Rattle.state.specs.declared.operation.Operation.the-variants.{One, Two}

@@ -9,8 +9,9 @@ use lib.Dec.{leb}
 use lib.ListN.{length}
 use lib.Ieee.{Float}
 use borrow.Author.Tests.{leb-true}
+use Rattle.laws.specs.Bounds.{maxQubits}
 use Rattle.laws.proofs.Tests.{and-left, and-right}
-use Rattle.state.specs.Bounds.{maxQubits, dimOf, statePlaces}
+use Rattle.state.specs.Bounds.{dimOf, statePlaces}
 use Rattle.state.specs.Modes.{isPermutation}
 use Rattle.state.specs.Questions.{stateOk}
 

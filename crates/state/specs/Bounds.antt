@@ -1,13 +1,5 @@
--- The bounds of the scope that the state calls know, each named once. Assumes nothing.
+-- The sizes of a state, each named once. Assumes nothing.
 use Prim.Native.Nat.{ℕ, _*_, _+_}
-
--- qubits (question 16)
-abbrev pub maxQubits : ℕ
-maxQubits = 128
-
--- places of an operation (question 10, question 17)
-abbrev pub opPlaces : ℕ
-opPlaces = 18
 
 -- rows of the covariance of n qubits: two Majorana operators a mode
 abbrev pub dimOf : ℕ → ℕ

@@ -6,12 +6,13 @@ use lib.Dec.{eqb, ltb}
 use lib.IntN.{pos}
 use lib.ListN.{getD, length}
 use lib.Ieee.{Float, nan, binary64, ofBits, ofInt, toUnsigned, neg, lt, eq}
+use Rattle.laws.specs.Bounds.{opPlaces}
 use Rattle.real.specs.Maps.{local2, local4}
 use Rattle.real.specs.declared.maps.Real2.{Real2}
 use Rattle.real.specs.declared.maps.Map2.{Map2}
 use Rattle.real.specs.declared.maps.Real4.{Real4}
 use Rattle.real.specs.declared.maps.Map4.{Map4}
-use Rattle.state.specs.Bounds.{opPlaces, dimOf}
+use Rattle.state.specs.Bounds.{dimOf}
 use Rattle.state.specs.State.{State, stateAt, stored}
 use Rattle.state.specs.Det.{odd}
 use Rattle.state.specs.Apply.{step}

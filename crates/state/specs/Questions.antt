@@ -5,7 +5,8 @@ use Prim.Native.Nat.{ℕ}
 use lib.Dec.{leb}
 use lib.ListN.{length}
 use lib.Ieee.{Float}
-use Rattle.state.specs.Bounds.{maxQubits, dimOf, statePlaces}
+use Rattle.laws.specs.Bounds.{maxQubits}
+use Rattle.state.specs.Bounds.{dimOf, statePlaces}
 use Rattle.state.specs.Modes.{isPermutation}
 
 -- "is n at most 128, the slice long enough, the mode table's first n a permutation?"

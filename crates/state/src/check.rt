@@ -6,7 +6,7 @@ ghost use lib.Dec.{eqb};
 ghost use lib.ListN.{length};
 ghost use Rattle.laws.specs.Tests.{allBelow};
 ghost use Rattle.laws.specs.Tables.{modeAt};
-ghost use Rattle.state.specs.Bounds.{maxQubits};
+ghost use Rattle.laws.specs.Bounds.{maxQubits};
 ghost use Rattle.state.specs.Modes.{modeOk, isPermutation};
 ghost use Rattle.state.specs.Questions.{stateOk};
 ghost use Rattle.state.specs.Parts.{NoMarks};

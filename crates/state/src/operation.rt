@@ -3,7 +3,7 @@
 ghost use mathlib.Core.Path.{_≡_};
 ghost use Prim.Native.Nat.{_+_, _≤_};
 ghost use lib.ListN.{length};
-ghost use Rattle.state.specs.Bounds.{opPlaces};
+ghost use Rattle.laws.specs.Bounds.{opPlaces};
 ghost use Rattle.state.specs.Operation.{modeOf, real2Of, real4Of, map2Of, map4Of, interactionOf, decodeOf};
 use real::Map2;
 use real::Map4;

@@ -11,10 +11,11 @@ use lib.ListN.{length, getD, take, length-take}
 use lib.Seq.{getD-take}
 use lib.Ieee.{binary64, ofBits}
 use borrow.Author.Tests.{ltb-false, lt-leb, le-ltb}
+use Rattle.laws.specs.Bounds.{maxQubits}
 use Rattle.laws.proofs.Tests.{else-same, all-same}
 use Rattle.num.specs.Bits.{byteAt, le16, le32, le64, f64At}
 use Rattle.laws.proofs.Cases.{lt-or-le}
-use Rattle.tape.specs.Bounds.{maxQubits, maxFlags, maxGates, maxLabel, headerLength, markByte, headerMark, gateMark, labelMark, leading, longest}
+use Rattle.tape.specs.Bounds.{maxFlags, maxGates, maxLabel, headerLength, markByte, headerMark, gateMark, labelMark, leading, longest}
 use Rattle.tape.specs.Header.{headerAt, isTolerance, headerMarked, headerOf}
 use Rattle.tape.specs.Codes.{qubitsOf, floatsOf, gateLength}
 use Rattle.tape.specs.Records.{markedAt, codeAt, qubitAt, qubitsBelow, qubitsDiffer, smallEntry, entriesSmall, gateFault, sound, gateRecordAt, printable, labelBytes, labelRecordAt, recordAt}

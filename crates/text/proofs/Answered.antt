@@ -6,10 +6,10 @@ use native.Mathlib.Omega.{arith}
 use lib.ListN.{length, replicate}
 use borrow.Author.Tests.{le-leb, lt-ltb}
 use Rattle.laws.specs.Zeros.{+0}
+use Rattle.laws.specs.Bounds.{maxQubits}
 use Rattle.tape.specs.Parse.{Content, accepted, parse}
 use Rattle.tape.specs.declared.header.Header.{Header}
 use Rattle.detect.specs.Compile.{reportedOf, programOf}
-use Rattle.state.specs.Bounds as state
 use Rattle.state.specs.Bounds.{dimOf, statePlaces}
 use Rattle.state.specs.Questions.{stateOk}
 use Rattle.state.specs.Calls.{expectationZOf}
@@ -28,7 +28,7 @@ z-answered t h c q e few l =
     let long : statePlaces (dimOf (h .n)) ≤ length (stateOf h c) =
     rw (stored-long (dimOf (h .n)) (evolved (h .n) (programOf h (c .gates))) (replicate states +0) (stateOf h c) room refl) room in
     rw (
-      le-leb (h .n) state.maxQubits (omega arith),
+      le-leb (h .n) maxQubits (omega arith),
       le-leb (statePlaces (dimOf (h .n))) (length (stateOf h c)) long,
       table-permutes t h c e,
       lt-ltb q (h .n) l,

@@ -9,11 +9,11 @@ use lib.Dec.{T, ltb}
 use lib.ListN.{length, replicate}
 use borrow.Author.Tests.{ltb-false, le-ltb}
 use Rattle.laws.specs.Zeros.{+0}
+use Rattle.laws.specs.Bounds.{opPlaces}
 use Rattle.tape.specs.Parse.{Parsed, Content, refused, accepted}
 use Rattle.tape.specs.declared.header.Header.{Header}
 use Rattle.detect.specs.declared.report.Report.{Report}
 use Rattle.detect.specs.declared.report.Answer.the-variants.{Done, Refused}
-use Rattle.detect.specs.Operation.{opPlaces}
 use Rattle.detect.specs.Report.{reportOf, noReport}
 use Rattle.detect.specs.Compile.{floatsOf, marksOf, hasWork, reportedOf}
 use Rattle.state.specs.Bounds.{dimOf, statePlaces}

@@ -15,7 +15,8 @@ use lib.Ieee.Fits.{down-pos, and-l, and-r}
 use lib.Ieee.Bits.{ofBits-toBits}
 use lib.Ieee.Scale.{finite}
 use Rattle.laws.proofs.Cases.{lt-or-le}
-use Rattle.text.specs.Millionths.{rounded, million, millionths, two, inRange}
+use Rattle.gate.specs.Complex.{f2}
+use Rattle.text.specs.Millionths.{rounded, million, millionths, inRange}
 use Rattle.text.proofs.Rounding.{rounded-same}
 
 -- ---- the range
@@ -37,10 +38,10 @@ range-number (fin s m e) h = tt
 range-below : (s : Bool) (m : ℕ) (e : ℤ) → inRange (fin s m e) ≡ true → m * up e < 2 * down e
 unfolding inRange lt ofBits neg
 range-below true m e h =
-    let t = ltb→lt (m * up e * 1) (1 * 2 * down e) (and-l (lt (neg two) (fin true m e)) (lt (fin true m e) two) (subst T (sym h) tt)) in
+    let t = ltb→lt (m * up e * 1) (1 * 2 * down e) (and-l (lt (neg f2) (fin true m e)) (lt (fin true m e) f2) (subst T (sym h) tt)) in
     omega arith
 range-below false m e h =
-    let t = ltb→lt (m * up e * 1) (1 * 2 * down e) (and-r (lt (neg two) (fin false m e)) (lt (fin false m e) two) (subst T (sym h) tt)) in
+    let t = ltb→lt (m * up e * 1) (1 * 2 * down e) (and-r (lt (neg f2) (fin false m e)) (lt (fin false m e) f2) (subst T (sym h) tt)) in
     omega arith
 
 -- ---- the value, by the fields of the bits

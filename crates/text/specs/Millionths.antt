@@ -4,8 +4,9 @@ use mathlib.Core.Bool.{Bool, cond, _&&_}
 use mathlib.Core.List.{List, _++_}
 use Prim.Native.Nat.{ℕ, _+_, _*_, _/_}
 use lib.Dec.{eqb}
-use lib.Ieee.{Float, nan, inf, fin, binary64, up, down, neg, lt, ofBits}
+use lib.Ieee.{Float, nan, inf, fin, up, down, neg, lt}
 use Rattle.laws.specs.Zeros.{+0}
+use Rattle.gate.specs.Complex.{f2}
 use Rattle.text.specs.Ascii.{ascii, decimal}
 
 -- "half away from zero": num / den to the nearest whole number, from the half on upwards. It is num / den + 1 / 2, cut to a whole number.
@@ -21,13 +22,9 @@ millionths nan = 0
 millionths (inf s) = 0
 millionths (fin s m e) = rounded (m * up e * million) (down e)
 
--- 2.0
-abbrev pub two : Float
-two = ofBits binary64 0x4000_0000_0000_0000
-
 -- above -2 and below 2: no NaN is
 unfoldable pub inRange : Float → Bool
-inRange x = lt (neg two) x && lt x two
+inRange x = lt (neg f2) x && lt x f2
 
 -- "0 without a sign"
 unfoldable pub signed : Bool → ℕ → List ℕ

@@ -6,10 +6,10 @@ use lib.Dec.{ltb}
 use lib.ListN.{length, replicate}
 use lib.Ieee.{Float}
 use Rattle.laws.specs.Zeros.{+0}
+use Rattle.laws.specs.Bounds.{opPlaces}
 use Rattle.tape.specs.Parse.{Parsed, Content, refused, accepted, parse}
 use Rattle.tape.specs.declared.header.Header.{Header}
 use Rattle.detect.specs.declared.report.Report.{Report}
-use Rattle.detect.specs.Operation.{opPlaces}
 use Rattle.detect.specs.Compile.{reportedOf, programOf}
 use Rattle.state.specs.Bounds.{dimOf, statePlaces}
 use Rattle.state.specs.State.{stored}

@@ -5,7 +5,7 @@ use Prim.Native.Nat.{ℕ, zero, suc, _<_, zero-le, suc-le-suc}
 use borrow.Author.Needs.{needs}
 use borrow.Author.Tests.{le-leb, lt-leb}
 use Rattle.laws.specs.Views.{upFrom, listOf}
-use Rattle.state.specs.Bounds.{maxQubits}
+use Rattle.laws.specs.Bounds.{maxQubits}
 use Rattle.laws.specs.Tests.{allBelow}
 use Rattle.state.specs.Modes.{isPermutation}
 use Rattle.state.proofs.Permutations.{none-set, identity-ok}
