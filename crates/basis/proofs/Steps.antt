@@ -14,13 +14,13 @@ use Rattle.laws.specs.Zeros.{+0, +1}
 use Rattle.laws.specs.Dyadic.{Dy}
 use Rattle.laws.specs.Tables.{modeAt}
 use Rattle.laws.specs.Bounds.{maxQubits}
+use Rattle.laws.specs.Phase.{Phase}
 use Rattle.real.specs.Maps.{entry2, entry4}
 use Rattle.gate.specs.declared.complex.Complex.{Complex}
 use Rattle.gate.specs.declared.matrix.Mat2.{Mat2}
 use Rattle.gate.specs.declared.matrix.Mat4.{Mat4}
 use Rattle.majorana.specs.Majorana.{majoranaMap1Of, majoranaMap2Of}
 use Rattle.majorana.specs.Diagonal.{unitOf, rotationMapOf}
-use Rattle.monomial.specs.Phase.{Phase}
 use Rattle.monomial.specs.Monomial.{unit, IsEntry, flip, Mono2, Mono4, Has2, Has4, bitA, bitB, Fits}
 use Rattle.monomial.specs.Basis.{basis}
 use Rattle.monomial.proofs.States.{fits-state, single-state, rotation-state}

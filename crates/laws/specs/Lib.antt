@@ -5,6 +5,7 @@ pub mod Lists
 pub mod Slices
 pub mod Tables
 pub mod Bounds
+pub mod Phase
 pub mod Zeros
 pub mod Dyadic
 pub mod Matrix

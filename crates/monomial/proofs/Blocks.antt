@@ -6,8 +6,8 @@ use mathlib.Core.Bool.{Bool, true, false, not, cond, _&&_}
 use Prim.Native.Nat.{ℕ, zero, suc, _+_, _<_}
 use lib.Dec.{T, ltb, ltb→lt}
 use lib.Ieee.Fits.{and-l, and-r}
+use Rattle.laws.specs.Phase.{Phase, i0, i1, i2, i3, isOdd}
 use Rattle.monomial.specs.Groups.{Four, four}
-use Rattle.monomial.specs.Phase.{Phase, i0, i1, i2, i3, isOdd}
 use Rattle.monomial.specs.Monomial.{Entry, none, any, unit, flip, entries4, wOf, fitting}
 use Rattle.monomial.specs.Basis.{basis, bits, Signed, unitAt}
 use Rattle.monomial.proofs.Tests.{everyBit, everyPhase, at-phase, both-pairs, eqPhase, eqPhase→}

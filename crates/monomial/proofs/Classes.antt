@@ -4,6 +4,7 @@
 use mathlib.Core.Path.{_≡_, refl, ap, _∙_, subst}
 use mathlib.Core.Bool.{Bool, true, false, not, cond, _&&_, _||_}
 use lib.Ieee.{Float, le}
+use Rattle.laws.specs.Phase.{Phase}
 use Rattle.num.specs.Order.{minOf}
 use Rattle.gate.specs.Complex.{f0, f1}
 use Rattle.gate.specs.Table.{gateSwap}
@@ -12,7 +13,6 @@ use Rattle.majorana.specs.declared.classify.Kind2.the-variants.{Diag, Interacti
 use Rattle.majorana.specs.Diagonal.{interactionOf, phaseNoneOf}
 use Rattle.majorana.specs.Classify.{diagonalOf, withoutPhaseOf, residual2Of, swap4Of, class2, plainOf, fallbackOf, swappedOf, classify2Of}
 use Rattle.monomial.specs.Groups.{Four, four, Mat4Of}
-use Rattle.monomial.specs.Phase.{Phase}
 use Rattle.monomial.specs.Monomial.{IsEntry, unit, flip, Mono4, entries4, Has4, bitA, bitB, wOf, fitting, Fits, Unfit}
 use Rattle.monomial.specs.Algebra.{times4, Even, monoSwap}
 use Rattle.monomial.specs.Tolerance.{Tolerance}

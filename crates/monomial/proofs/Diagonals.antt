@@ -11,6 +11,7 @@ use lib.Ieee.Scale.{finite}
 use lib.Ieee.Fits.{add-fits, sub-fits}
 use Rattle.laws.specs.Dyadic.{Dy}
 use Rattle.laws.specs.Zeros.{+1}
+use Rattle.laws.specs.Phase.{Phase, i0, i2, _⊕_, minus, realZ, imagZ}
 use Rattle.laws.proofs.Zeros.{one-bits}
 use Rattle.laws.proofs.Fit.{times-one}
 use Rattle.laws.proofs.DyadicOrder.{lt-dy}
@@ -23,7 +24,6 @@ use Rattle.gate.specs.declared.matrix.Mat4.{Mat4}
 use Rattle.majorana.specs.Diagonal.{plusThreeOf, offSquareOf, offdiag4Of, phaseAOf, phaseBOf, interactionOf, phaseNoneOf, normOf, unitOf}
 use Rattle.majorana.specs.Classify.{diagonalOf}
 use Rattle.monomial.specs.Groups.{Four, four, Mat4Of}
-use Rattle.monomial.specs.Phase.{Phase, i0, i2, _⊕_, minus, realZ, imagZ}
 use Rattle.monomial.specs.Monomial.{Entry, unit, IsEntry, Mono4, entries4, entriesOf, Has4, wOf}
 use Rattle.monomial.specs.Tolerance.{Tolerance}
 use Rattle.monomial.proofs.Known.{Known, kn, addK, divK, IsKnown, add-known, div-known}

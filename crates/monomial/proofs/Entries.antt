@@ -6,9 +6,9 @@ use Prim.Native.Nat.{_<_}
 use lib.Dec.{T, lit<}
 use lib.IntN.{ℤ, pos, negsuc, natAbs}
 use Rattle.laws.specs.Dyadic.{eqZ}
+use Rattle.laws.specs.Phase.{Phase, i0, i1, i2, i3, _⊕_, minus, realZ, imagZ}
 use Rattle.gate.specs.Complex.{_+ℂ_, _*ℂ_, conjOf, isZeroOf, normSqrOf, c0}
 use Rattle.gate.specs.declared.complex.Complex.{Complex}
-use Rattle.monomial.specs.Phase.{Phase, i0, i1, i2, i3, _⊕_, minus, realZ, imagZ}
 use Rattle.monomial.specs.Monomial.{Entry, none, any, unit, IsEntry}
 use Rattle.monomial.proofs.Known.{Known, un, kn, bound, IsKnown}
 use Rattle.monomial.proofs.Complexes.{Cx, cx, IsComplex, k0, cadd, cmul, cconj, cnorm, cxSound, cnorm-law, zero-parts, equal-zero}

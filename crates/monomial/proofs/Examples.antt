@@ -6,6 +6,7 @@ use lib.IntN.{pos}
 use lib.Ieee.{Float, fin, le, lt, eq, fits, ofBits}
 use Rattle.laws.specs.Dyadic.{Dy}
 use Rattle.laws.specs.Bounds.{maxTolerance}
+use Rattle.laws.specs.Phase.{i0, i1, i2}
 use Rattle.gate.specs.Complex.{cx, f0, f1, c0, c1}
 use Rattle.gate.specs.Matrix.{row4, mat4, kronOf}
 use Rattle.gate.specs.Table.{ci, gateX, gateY, gateCz, gateSwap, gateISwap}
@@ -15,7 +16,6 @@ use Rattle.majorana.specs.Diagonal.{offdiag4Of}
 use Rattle.majorana.specs.Classify.{class2, swap4Of, classify2Of}
 use Rattle.majorana.specs.declared.classify.Kind2.the-variants.{Diag, Interaction, Match, NonGaussian}
 use Rattle.monomial.specs.Groups.{two, four}
-use Rattle.monomial.specs.Phase.{i0, i1, i2}
 use Rattle.monomial.specs.Monomial.{Mono4, Has4, bitA, bitB}
 use Rattle.monomial.specs.Basis.{basis, bits, Signed, unitAt}
 use Rattle.monomial.specs.Algebra.{monoX, monoSwap, monoISwap, monoY, kron4}

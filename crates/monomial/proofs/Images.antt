@@ -6,6 +6,7 @@ use lib.Dec.{T}
 use lib.IntN.{ℤ, pos}
 use lib.Ieee.Fits.{and-l, and-r}
 use Rattle.laws.specs.Dyadic.{Dy}
+use Rattle.laws.specs.Phase.{i2}
 use Rattle.real.specs.Maps.{row2, row4}
 use Rattle.real.specs.declared.maps.Real2.{Real2}
 use Rattle.real.specs.declared.maps.Real4.{Real4}
@@ -13,7 +14,6 @@ use Rattle.gate.specs.declared.matrix.Mat2.{Mat2}
 use Rattle.gate.specs.declared.matrix.Mat4.{Mat4}
 use Rattle.majorana.specs.Majorana.{coefficients2Of, distance2Of, coefficients4Of, distance4Of}
 use Rattle.monomial.specs.Groups.{Two, two, Four, four, Mat2Of, Mat4Of}
-use Rattle.monomial.specs.Phase.{i2}
 use Rattle.monomial.specs.Monomial.{Entry, unit, IsEntry}
 use Rattle.monomial.specs.Basis.{Signed, unitAt, rowZ}
 use Rattle.monomial.proofs.Known.{Known, is, is-known}

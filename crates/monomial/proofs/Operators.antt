@@ -6,6 +6,7 @@ use Prim.Native.Nat.{ℕ, zero, suc}
 use lib.IntN.{pos, negsuc}
 use lib.Ieee.{ofBits}
 use Rattle.laws.specs.Dyadic.{Dy}
+use Rattle.laws.specs.Phase.{i0, i1, i2, i3}
 use Rattle.real.specs.declared.maps.Real2.{Real2}
 use Rattle.real.specs.declared.maps.Real4.{Real4}
 use Rattle.gate.specs.Complex.{f0, f1, c0, c1, f2}
@@ -16,7 +17,6 @@ use Rattle.gate.specs.declared.matrix.Row4.{Row4}
 use Rattle.gate.specs.declared.matrix.Mat4.{Mat4}
 use Rattle.majorana.specs.Majorana.{f4, image2Of, coefficients2Of, less2Of, rest2Of, square2Of, distance2Of, majorana0, majorana1, majorana2, majorana3, image4Of, coefficients4Of, less4Of, rest4Of, square4Of, distance4Of}
 use Rattle.monomial.specs.Groups.{Two, two, Four, four, Mat2Of, Row4Of, Mat4Of}
-use Rattle.monomial.specs.Phase.{i0, i1, i2, i3}
 use Rattle.monomial.specs.Monomial.{Entry, IsEntry, entries2}
 use Rattle.monomial.proofs.Known.{Known, kn, divK, IsKnown, div-known}
 use Rattle.monomial.proofs.Complexes.{Cx, IsComplex, zero-is}

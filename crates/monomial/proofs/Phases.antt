@@ -2,7 +2,7 @@
 use mathlib.Core.Path.{_≡_}
 use lib.Dec.{T}
 use mathlib.Core.Bool.{Bool}
-use Rattle.monomial.specs.Phase.{Phase, i0, _⊕_, minus}
+use Rattle.laws.specs.Phase.{Phase, i0, _⊕_, minus}
 use Rattle.monomial.proofs.Tests.{everyPhase, at-phase, eqPhase, eqPhase→}
 
 -- a test of four phases

@@ -10,6 +10,7 @@ use lib.Ieee.Fits.{and-l, and-r}
 use Rattle.laws.specs.Dyadic.{Dy, eqZ}
 use Rattle.laws.specs.Matrix.{Mat}
 use Rattle.laws.specs.Maps.{Local, rows, cols}
+use Rattle.laws.specs.Phase.{Phase, i0, i1, i2, i3, realZ, imagZ}
 use Rattle.laws.proofs.Dyadic.{neg-dy}
 use Rattle.laws.proofs.DyadicOrder.{lt-dy, eq-dy}
 use Rattle.real.specs.Maps.{entry2, local2}
@@ -17,7 +18,6 @@ use Rattle.gate.specs.Complex.{f0}
 use Rattle.gate.specs.declared.complex.Complex.{Complex}
 use Rattle.majorana.specs.Diagonal.{unitOf, turnsOf, rotationMapOf, rotationOf}
 use Rattle.majorana.specs.declared.diagonal.Rotation.the-variants.{By, Nothing}
-use Rattle.monomial.specs.Phase.{Phase, i0, i1, i2, i3, realZ, imagZ}
 use Rattle.monomial.specs.Monomial.{unit, IsEntry}
 use Rattle.monomial.specs.Basis.{basis, Block, Signed, unitAt, rowZ, Permutes, permuted}
 use Rattle.monomial.proofs.Known.{eqZ→}

@@ -9,13 +9,13 @@ use lib.Ieee.Fits.{and-l, and-r}
 use Rattle.laws.specs.Dyadic.{Dy}
 use Rattle.laws.specs.Matrix.{Mat}
 use Rattle.laws.specs.Maps.{Local, rows, cols}
+use Rattle.laws.specs.Phase.{Phase}
 use Rattle.real.specs.Maps.{row2, entry2, local2}
 use Rattle.gate.specs.Complex.{f0}
 use Rattle.gate.specs.Table.{gateX, gateY}
 use Rattle.gate.specs.declared.matrix.Mat2.{Mat2}
 use Rattle.majorana.specs.Majorana.{image2Of, mapRow2Of, mapDistance2Of, majoranaMap1Of}
 use Rattle.monomial.specs.Groups.{Two, two, Mat2Of}
-use Rattle.monomial.specs.Phase.{Phase}
 use Rattle.monomial.specs.Monomial.{Entry, IsEntry, flip, Mono2, entries2, Has2}
 use Rattle.monomial.specs.Basis.{basis, Block, Signed, rowZ, Permutes, permuted}
 use Rattle.monomial.proofs.Tests.{everyBit, everyPhase, at-bit, at-phase, both-pairs, at-each}

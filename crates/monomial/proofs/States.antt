@@ -14,6 +14,7 @@ use borrow.Author.Tests.{eq-eqb, ne-eqb}
 use Rattle.laws.specs.Dyadic.{Dy, withSign}
 use Rattle.laws.specs.Matrix.{Mat}
 use Rattle.laws.specs.Maps.{Local, inside, rows, cols}
+use Rattle.laws.specs.Phase.{Phase}
 use Rattle.laws.proofs.Cases.{lt-or-le, eq-or-ne}
 use Rattle.laws.proofs.Maps.{inside-below, inside-above, rows-out, cols-out}
 use Rattle.real.specs.Maps.{entry2, entry4}
@@ -22,7 +23,6 @@ use Rattle.gate.specs.declared.matrix.Mat2.{Mat2}
 use Rattle.gate.specs.declared.matrix.Mat4.{Mat4}
 use Rattle.majorana.specs.Majorana.{majoranaMap1Of, majoranaMap2Of}
 use Rattle.majorana.specs.Diagonal.{unitOf, rotationMapOf}
-use Rattle.monomial.specs.Phase.{Phase}
 use Rattle.monomial.specs.Monomial.{unit, IsEntry, flip, Mono2, Mono4, Has2, Has4, bitA, bitB, Fits}
 use Rattle.monomial.specs.Basis.{basis, bits, Block, IsBasis, Signed, signed, Permutes, permuted}
 use Rattle.monomial.proofs.Fitting.{permOf, perm-moves, permutation}

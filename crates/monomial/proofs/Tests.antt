@@ -5,7 +5,7 @@ use Prim.Native.Nat.{ℕ, zero, suc, _<_}
 use native.Mathlib.Nat.{not-suc-le-zero, le-of-suc-le-suc}
 use lib.Dec.{T}
 use lib.Ieee.Fits.{and-l, and-r}
-use Rattle.monomial.specs.Phase.{Phase, i0, i1, i2, i3}
+use Rattle.laws.specs.Phase.{Phase, i0, i1, i2, i3}
 
 -- ---- bits, phases, places
 

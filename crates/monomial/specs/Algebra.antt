@@ -5,8 +5,8 @@ use mathlib.Core.Bool.{Bool, true, false, cond}
 use mathlib.Core.List.{[], _∷_}
 use Prim.Native.Nat.{ℕ}
 use lib.ListN.{getD}
+use Rattle.laws.specs.Phase.{Phase, i0, i1, i2, i3, _⊕_, minus}
 use Rattle.monomial.specs.Groups.{Two, two, Four, four}
-use Rattle.monomial.specs.Phase.{Phase, i0, i1, i2, i3, _⊕_, minus}
 use Rattle.monomial.specs.Monomial.{flip, Mono2, Mono4, wOf, fitting}
 
 -- ---- one qubit

@@ -1,6 +1,5 @@
 -- Monomial blocks, basis states and signed permutations: what the theorems of this crate speak of. Definitions only.
 pub mod Groups
-pub mod Phase
 pub mod Monomial
 pub mod Basis
 pub mod Tolerance

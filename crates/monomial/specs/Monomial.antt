@@ -4,11 +4,11 @@ use mathlib.Core.Path.{_≡_}
 use mathlib.Core.Bool.{Bool, true, false, not, cond}
 use lib.IntN.{ℤ, pos}
 use Rattle.laws.specs.Dyadic.{Dy}
+use Rattle.laws.specs.Phase.{Phase, i0, i2, _⊕_, minus, realZ, imagZ}
 use Rattle.gate.specs.declared.complex.Complex.{Complex}
 use Rattle.gate.specs.declared.matrix.Mat2.{Mat2}
 use Rattle.gate.specs.declared.matrix.Mat4.{Mat4}
 use Rattle.monomial.specs.Groups.{Two, two, Four, four, Mat2Of, Mat4Of}
-use Rattle.monomial.specs.Phase.{Phase, i0, i2, _⊕_, minus, realZ, imagZ}
 
 -- ---- entries
 

@@ -5,12 +5,12 @@ use mathlib.Core.Logic.{_⊎_, inl, inr}
 use mathlib.Core.Bool.{Bool, true, false, not, cond}
 use lib.Dec.{T}
 use lib.Ieee.{Float}
+use Rattle.laws.specs.Phase.{Phase, i0, i2}
 use Rattle.gate.specs.Complex.{f0, f1}
 use Rattle.gate.specs.declared.matrix.Mat4.{Mat4}
 use Rattle.majorana.specs.Classify.{class2, classify2Of, swap4Of}
 use Rattle.majorana.specs.declared.classify.Kind2.{Kind2}
 use Rattle.majorana.specs.declared.classify.Kind2.the-variants.{Diag, Interaction, Match, NonGaussian}
-use Rattle.monomial.specs.Phase.{Phase, i0, i2}
 use Rattle.monomial.specs.Monomial.{flip, Mono4, Has4, wOf, fitting, Fits, Unfit}
 use Rattle.monomial.specs.Algebra.{Even}
 use Rattle.monomial.specs.Tolerance.{Tolerance}

@@ -5,6 +5,7 @@ use mathlib.Core.Bool.{Bool, true, false, not, cond, _&&_}
 use lib.Dec.{T}
 use lib.IntN.{pos}
 use Rattle.laws.specs.Dyadic.{eqZ}
+use Rattle.laws.specs.Phase.{Phase, i0, i1, i2, i3, realZ, imagZ}
 use Rattle.laws.proofs.DyadicOrder.{eq-dy}
 use Rattle.gate.specs.Complex.{isZeroOf, f0}
 use Rattle.gate.specs.Matrix.{id2, mul2Of, mul4Of, kronOf, mat4SwapQubitsOf}
@@ -13,7 +14,6 @@ use Rattle.gate.specs.declared.matrix.Row4.{Row4}
 use Rattle.gate.specs.declared.matrix.Mat2.{Mat2}
 use Rattle.gate.specs.declared.matrix.Mat4.{Mat4}
 use Rattle.monomial.specs.Groups.{Two, two, Four, four, Row4Of, Mat2Of, Mat4Of}
-use Rattle.monomial.specs.Phase.{Phase, i0, i1, i2, i3, realZ, imagZ}
 use Rattle.monomial.specs.Monomial.{IsEntry, none, unit, flip, Mono2, Mono4, place4, entries2, entries4, Has2, Has4, bitA, bitB}
 use Rattle.monomial.specs.Algebra.{times2, times4, kron4, renamed, monoI}
 use Rattle.monomial.proofs.Complexes.{zero-is}

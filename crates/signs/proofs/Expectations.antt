@@ -6,8 +6,9 @@ use mathlib.Core.Bool.{Bool, true, false, not, _&&_, xor, cond, true≢false, an
 use Prim.Native.Nat.{ℕ, zero, suc, _≤_, _<_}
 use native.Mathlib.Nat.{le-refl}
 use native.Mathlib.Omega.{arith}
+use Rattle.laws.specs.Phase.{Phase, i0, i3, _⊕_}
 use Rattle.laws.proofs.Cases.{eq-or-ne}
-use Rattle.signs.specs.Paulis.{Phase, i0, i3, _⊕_, sgn, Pauli, pr, ph, Str, times, signed, phases, mul, nought, turn, real, flips, still}
+use Rattle.signs.specs.Paulis.{sgn, Pauli, pr, ph, Str, times, signed, phases, mul, nought, turn, real, flips, still}
 use Rattle.signs.specs.Paulis.{expectation}
 use Rattle.signs.specs.Majoranas.{paired}
 use Rattle.signs.proofs.Tables.{comm, right-none, xor-none, flips-pr, quiet-ph}

@@ -7,12 +7,13 @@ use native.Mathlib.Omega.{arith}
 use lib.Dec.{T}
 use lib.Ieee.{Float}
 use Rattle.laws.specs.Zeros.{nz}
+use Rattle.laws.specs.Phase.{i0, i1, _⊕_}
 use Rattle.real.specs.Maps.{entry2, entry4}
 use Rattle.real.specs.declared.maps.Real2.{Real2}
 use Rattle.real.specs.declared.maps.Map2.{Map2}
 use Rattle.real.specs.declared.maps.Real4.{Real4}
 use Rattle.real.specs.declared.maps.Map4.{Map4}
-use Rattle.signs.specs.Paulis.{i0, i1, _⊕_, sgn, Pauli, pI, pX, pY, pZ, pr, ph}
+use Rattle.signs.specs.Paulis.{sgn, Pauli, pI, pX, pY, pZ, pr, ph}
 use Rattle.signs.specs.Blocks.{One, Two, _·₁_, _·_, front₁, front, Block₁, Block}
 use Rattle.signs.specs.Majoranas.{Four, c0, c1, c2, c3, num₁, num, Row, Sends₁, Sends}
 use Rattle.signs.specs.Circuits.{unitRow, Maps₁, Maps, Item, one, two}

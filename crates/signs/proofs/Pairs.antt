@@ -9,9 +9,10 @@ use lib.Dec.{T, eqb}
 use lib.Ieee.{neg}
 use borrow.Author.Tests.{eq-eqb, ne-eqb}
 use Rattle.laws.specs.Zeros.{+0, nz}
+use Rattle.laws.specs.Phase.{Phase, i0, i2, i3, _⊕_}
 use Rattle.laws.proofs.Cases.{lt-or-le, eq-or-ne}
 use Rattle.state.specs.State.{vacuum}
-use Rattle.signs.specs.Paulis.{Phase, i0, i2, i3, _⊕_, sgn, Pauli, pr, ph, Str, signed, phases, mul, Value, nought, plus, minus, turn, float}
+use Rattle.signs.specs.Paulis.{sgn, Pauli, pr, ph, Str, signed, phases, mul, Value, nought, plus, minus, turn, float}
 use Rattle.signs.specs.Paulis.{real, flips, expectation}
 use Rattle.signs.specs.Majoranas.{xy, gamma, paired}
 use Rattle.signs.proofs.Tables.{comm, cancel, right-none, sgn-xor, flips-pr, quiet-ph, samePhase, ph-square}

@@ -9,9 +9,10 @@ use native.Mathlib.Omega.{arith}
 use lib.Dec.{eqb}
 use lib.ListN.{getD, length}
 use borrow.Author.Tests.{eq-eqb, ne-eqb}
+use Rattle.laws.specs.Phase.{i0, i1, i2, i3, _⊕_}
 use Rattle.laws.proofs.Cases.{lt-or-le, eq-or-ne}
 use Rattle.queries.specs.Products.{indexOf}
-use Rattle.signs.specs.Paulis.{i0, i1, i2, i3, _⊕_, Pauli, pI, pX, pY, pZ, pr, ph, Str, times, signed, phases, mul, identity, flips}
+use Rattle.signs.specs.Paulis.{Pauli, pI, pX, pY, pZ, pr, ph, Str, times, signed, phases, mul, identity, flips}
 use Rattle.signs.specs.Majoranas.{xy, major, gamma, paired, listed, zs}
 use Rattle.signs.proofs.Tables.{pr-comm, quiet-ph}
 use Rattle.signs.proofs.JordanWigner.{before, here, beyond, gamma-at}

@@ -6,7 +6,8 @@ use mathlib.Core.Bool.{Bool, true, false, not, xor, _&&_, _||_}
 use Prim.Native.Nat.{ℕ}
 use lib.Dec.{T, eqb, ltb}
 use lib.Ieee.Fits.{and-i, and-l, and-r}
-use Rattle.signs.specs.Paulis.{Phase, i0, i1, i2, i3, _⊕_, sgn, pI, pZ, pr, ph}
+use Rattle.laws.specs.Phase.{Phase, i0, i1, i2, i3, _⊕_}
+use Rattle.signs.specs.Paulis.{sgn, pI, pZ, pr, ph}
 use Rattle.signs.specs.Blocks.{One, Two, _·₁_, _·_, front₁, front, Block₁, Block}
 use Rattle.signs.specs.Majoranas.{maj₁, maj, Four, c0, c1, c2, c3, num₁, num, Row, image₁, image, Sends₁, Sends}
 use Rattle.signs.proofs.Tables.{four, assoc, Sums, no-phase, samePhase, same-phase, phase-refl, samePauli, same-pauli, pauli-refl, pr-comm}

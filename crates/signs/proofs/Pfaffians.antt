@@ -13,12 +13,13 @@ use borrow.Author.Tests.{eq-eqb, ne-eqb}
 use Rattle.laws.specs.Zeros.{+0, +1, nz}
 use Rattle.laws.specs.Tables.{exchanged}
 use Rattle.laws.specs.Matrix.{Mat}
+use Rattle.laws.specs.Phase.{i2}
 use Rattle.laws.proofs.Cases.{eq-or-ne}
 use Rattle.laws.proofs.Tables.{exchanged-second, exchanged-away, exchanged-twice, exchanged-below}
 use Rattle.laws.proofs.Zeros.{div-cong, lt-cong, eq-cong}
 use Rattle.num.specs.Order.{absOf}
 use Rattle.pfaffian.specs.Pfaffian.{search, pivotOf, pivoted, less, pf}
-use Rattle.signs.specs.Paulis.{i2, Str, times, signed, mul as mulₛ, identity, Value, nought, plus, minus, turn, float, expectation}
+use Rattle.signs.specs.Paulis.{Str, times, signed, mul as mulₛ, identity, Value, nought, plus, minus, turn, float, expectation}
 use Rattle.signs.proofs.Tables.{comm}
 use Rattle.signs.proofs.Values.{plus≢nought, minus≢nought, float-one, _×ᵥ_, turn-turn, turn-left, turn-right, mul-nought, mul-assoc, mul-value}
 use Rattle.signs.proofs.Values.{add-none-left, add-none-right}

@@ -7,9 +7,10 @@ use Prim.Native.Nat.{ℕ, zero, suc, _+_, _≤_, _<_}
 use native.Mathlib.Nat.{add-zero, zero-add, le-refl}
 use native.Mathlib.Omega.{arith}
 use Rattle.laws.specs.Tables.{exchanged}
+use Rattle.laws.specs.Phase.{Phase, i0, i1, i2, i3, _⊕_}
 use Rattle.laws.proofs.Cases.{eq-or-ne}
 use Rattle.laws.proofs.Tables.{exchanged-first, exchanged-second, exchanged-away}
-use Rattle.signs.specs.Paulis.{Phase, i0, i1, i2, i3, _⊕_, sgn, Str, times, signed, mul, identity, Value, nought, plus, turn, real, flips}
+use Rattle.signs.specs.Paulis.{sgn, Str, times, signed, mul, identity, Value, nought, plus, turn, real, flips}
 use Rattle.signs.specs.Paulis.{still, expectation}
 use Rattle.signs.specs.Majoranas.{paired}
 use Rattle.signs.proofs.Tables.{comm, flips-pr}

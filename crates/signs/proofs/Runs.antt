@@ -9,6 +9,7 @@ use lib.Dec.{eqb, lit<}
 use lib.ListN.{length}
 use lib.Ieee.{Float}
 use Rattle.laws.specs.Zeros.{nz}
+use Rattle.laws.specs.Phase.{Phase, i3}
 use Rattle.real.specs.Maps.{local2, local4}
 use Rattle.real.specs.declared.maps.Map2.{Map2}
 use Rattle.real.specs.declared.maps.Map4.{Map4}
@@ -17,7 +18,7 @@ use Rattle.state.specs.State.{State, stateAt, stored, vacuum}
 use Rattle.state.specs.Det.{odd}
 use Rattle.state.specs.Operation.{effect, Fits}
 use Rattle.state.proofs.Stored.{stored-is}
-use Rattle.signs.specs.Paulis.{Phase, i3, sgn, Str, times, signed, mul, identity}
+use Rattle.signs.specs.Paulis.{sgn, Str, times, signed, mul, identity}
 use Rattle.signs.specs.Blocks.{Block₁, Block, on₁, on}
 use Rattle.signs.specs.Majoranas.{gamma, paired, Four, c0, c1, c2, c3, num₁, num}
 use Rattle.signs.specs.Circuits.{Maps₁, Maps, Item, one, two, interaction, operation, acts, pulled, Within}

@@ -7,9 +7,10 @@ use Prim.Native.Nat.{ℕ, zero, suc, _+_, _<_}
 use native.Mathlib.Omega.{arith}
 use lib.Dec.{eqb}
 use Rattle.laws.specs.Tables.{update}
+use Rattle.laws.specs.Phase.{Phase, _⊕_}
 use Rattle.laws.proofs.Cases.{eq-or-ne}
 use Rattle.laws.proofs.Tables.{update-here, update-away}
-use Rattle.signs.specs.Paulis.{Phase, _⊕_, sgn, Pauli, pr, ph, Str, times, signed, phases, mul}
+use Rattle.signs.specs.Paulis.{sgn, Pauli, pr, ph, Str, times, signed, phases, mul}
 use Rattle.signs.specs.Blocks.{Block₁, Block, on₁, on}
 use Rattle.signs.proofs.Tables.{assoc, cancel, Sums, sgn-xor, pr-assoc, ph-assoc}
 

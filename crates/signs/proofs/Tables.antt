@@ -5,7 +5,8 @@ use mathlib.Core.Bool.{Bool, true, false, xor, _&&_, true≢false}
 use Prim.Native.Nat.{ℕ, zero, suc}
 use lib.Dec.{T, eqb, eqb→eq, eqb-refl}
 use lib.Ieee.Fits.{and-l, and-r}
-use Rattle.signs.specs.Paulis.{Phase, i0, i1, i2, i3, next, _⊕_, sgn, Pauli, pI, pX, pY, pZ, pr, ph, flips}
+use Rattle.laws.specs.Phase.{Phase, i0, i1, i2, i3, next, _⊕_}
+use Rattle.signs.specs.Paulis.{sgn, Pauli, pI, pX, pY, pZ, pr, ph, flips}
 
 -- ---- phases
 

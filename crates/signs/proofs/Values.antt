@@ -10,11 +10,12 @@ use lib.Ieee.{Float, nan, inf, fin, binary64, add, mul, neg}
 use borrow.Author.Tests.{lt-ltb, le-ltb, eq-eqb, ne-eqb}
 use Rattle.laws.specs.Zeros.{+0, +1, sg, nz}
 use Rattle.laws.specs.Maps.{dot}
+use Rattle.laws.specs.Phase.{Phase, i0, i1, i2, i3, _⊕_}
 use Rattle.laws.proofs.Cases.{lt-or-le, eq-or-ne}
 use Rattle.laws.proofs.Zeros.{add-cong, mul-cong}
 use Rattle.laws.proofs.Negatives.{sg-cong}
 use Rattle.num.specs.Order.{absOf}
-use Rattle.signs.specs.Paulis.{Phase, i0, i1, i2, i3, _⊕_, sgn, Value, nought, plus, minus, turn, float, real}
+use Rattle.signs.specs.Paulis.{sgn, Value, nought, plus, minus, turn, float, real}
 
 -- ---- three values
 

@@ -10,10 +10,11 @@ use lib.ListN.{getD, length}
 use borrow.Author.Tests.{ne-eqb}
 use Rattle.laws.specs.Zeros.{+0, +1, nz}
 use Rattle.laws.specs.Matrix.{Mat}
+use Rattle.laws.specs.Phase.{i2}
 use Rattle.state.specs.State.{State, get}
 use Rattle.pfaffian.specs.Pfaffian.{pf, pfaffianOf}
 use Rattle.queries.specs.Products.{indexOf, restricted, productOf}
-use Rattle.signs.specs.Paulis.{i2, Str, times, signed, mul, identity, plus, float, expectation}
+use Rattle.signs.specs.Paulis.{Str, times, signed, mul, identity, plus, float, expectation}
 use Rattle.signs.specs.Majoranas.{gamma, zs, Modes}
 use Rattle.signs.specs.Circuits.{Item, pulled, Within}
 use Rattle.signs.proofs.Runs.{pulled-times, pulled-mul, pulled-gamma, pulled-identity}

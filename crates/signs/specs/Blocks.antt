@@ -3,7 +3,8 @@
 use mathlib.Core.Path.{_≡_}
 use Prim.Native.Nat.{ℕ, _+_}
 use Rattle.laws.specs.Tables.{update}
-use Rattle.signs.specs.Paulis.{Phase, _⊕_, Pauli, pr, ph, Str}
+use Rattle.laws.specs.Phase.{Phase, _⊕_}
+use Rattle.signs.specs.Paulis.{Pauli, pr, ph, Str}
 
 -- ---- signed Paulis on one mode, and on two
 

@@ -6,7 +6,8 @@ use mathlib.Core.List.{List, [], _∷_}
 use Prim.Native.Nat.{ℕ, _/_, _%_, _<_}
 use lib.Dec.{eqb, ltb}
 use lib.ListN.{getD, length}
-use Rattle.signs.specs.Paulis.{Pauli, pI, pX, pY, pZ, i0, i3, sgn, Str, times, mul}
+use Rattle.laws.specs.Phase.{i0, i3}
+use Rattle.signs.specs.Paulis.{Pauli, pI, pX, pY, pZ, sgn, Str, times, mul}
 use Rattle.signs.specs.Blocks.{One, Two, front₁, front, Block₁, Block}
 
 abbrev pub xy : Bool → Pauli

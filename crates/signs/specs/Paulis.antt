@@ -4,27 +4,8 @@ use mathlib.Core.Bool.{Bool, true, false, not, _&&_, cond}
 use Prim.Native.Nat.{ℕ, zero, suc}
 use lib.IntN.{pos}
 use lib.Ieee.{Float, fin}
+use Rattle.laws.specs.Phase.{Phase, i0, i1, i2, i3, _⊕_}
 use Rattle.laws.specs.Zeros.{+0, +1}
-
--- ---- phases: 1, i, -1, -i
-
-pub data Phase : Type 0 where
-  i0 i1 i2 i3 : Phase
-
--- times i
-abbrev pub next : Phase → Phase
-next i0 = i1
-next i1 = i2
-next i2 = i3
-next i3 = i0
-
-infixl 65 _⊕_
--- the product of two phases: the exponents add up
-abbrev pub _⊕_ : Phase → Phase → Phase
-i0 ⊕ b = b
-i1 ⊕ b = next b
-i2 ⊕ b = next (next b)
-i3 ⊕ b = next (next (next b))
 
 -- -1 if b, else 1
 abbrev pub sgn : Bool → Phase

@@ -5,13 +5,15 @@ use lib.IntN.{ℤ, pos, negsuc}
 pub data Phase : Type 0 where
   i0 i1 i2 i3 : Phase
 
+-- times i
 abbrev pub next : Phase → Phase
 next i0 = i1
 next i1 = i2
 next i2 = i3
 next i3 = i0
 
-infixl 20 _⊕_
+infixl 65 _⊕_
+-- the product of two phases: the exponents add up
 abbrev pub _⊕_ : Phase → Phase → Phase
 i0 ⊕ l = l
 i1 ⊕ l = next l
