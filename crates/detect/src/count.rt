@@ -1,6 +1,5 @@
 // The report's counts: each item's share, and their sum in item order.
 ghost use mathlib.Core.Path.{_≡_};
-ghost use mathlib.Core.Bool.{_&&_};
 ghost use Prim.Native.Nat.{_+_, _≤_};
 ghost use lib.ListN.{length};
 ghost use Rattle.laws.specs.Bounds.{opPlaces};
@@ -25,6 +24,7 @@ use majorana::number_conserving4;
 use majorana::phase_a;
 use majorana::phase_b;
 use majorana::rotation_of;
+use num::both;
 use work::A;
 use work::B;
 use work::DIAGONAL_ITEM;
@@ -195,12 +195,6 @@ fn two_share(w: &mut [f64], at: usize, kind: u32, i: u32, j: u32, residual: f64,
 }
 
 // ---- the sum
-
-fn both(x: bool, y: bool) -> bool
-    ensures { λ r. ⌜ r ≡ (x && y) ⌝ }
-{
-    if x { y } else { false }
-}
 
 fn plus(c: Counts, s: Counts) -> Counts
     requires { ⌜ Small c × Small s ⌝ }

@@ -20,6 +20,7 @@ use crate::program::detect;
 use crate::report::Answer;
 use crate::report::Compiled;
 use crate::report::refuse;
+use real::fill;
 use tape::Checked;
 use tape::Header;
 use tape::check_tape;
@@ -27,11 +28,8 @@ use tape::check_tape;
 pub fn clear_floats(w: &mut [f64])
     ensures { λ _. ⌜ now (w .exit) ≡ filled (length (now (w .entry))) f0 (now (w .entry)) ⌝ }
 {
-    let mut i = 0;
-    while i < w.len() {
-        w[i] = 0.0;
-        i += 1;
-    }
+    let n = w.len();
+    fill(w, n, 0.0);
 }
 
 pub fn clear_marks(u: &mut [u32])

@@ -10,7 +10,6 @@ mod runs; // runs of diagonal one-qubit gates into one
 
 pub use blocks::fuse_all;
 pub use records::block_on;
-pub use records::either;
 pub use records::matrix2;
 pub use records::matrix4;
 pub use records::one_on;

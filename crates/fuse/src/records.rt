@@ -1,6 +1,5 @@
 // A gate's record in the lent work: its matrix among the floats, and tests on its marks.
 ghost use mathlib.Core.Path.{_≡_};
-ghost use mathlib.Core.Bool.{_&&_, _||_};
 ghost use Prim.Native.Nat.{_+_, _*_, _≤_};
 ghost use lib.ListN.{length};
 ghost use Rattle.work.specs.Marks.{Records};
@@ -11,6 +10,7 @@ use gate::load2;
 use gate::load4;
 use gate::store2;
 use gate::store4;
+use num::either;
 use work::A;
 use work::B;
 use work::C;
@@ -51,18 +51,6 @@ pub fn put_matrix4(w: &mut [f64], i: usize, m: Mat4)
 }
 
 // ---- tests
-
-pub fn both(x: bool, y: bool) -> bool
-    ensures { λ r. ⌜ r ≡ (x && y) ⌝ }
-{
-    if x { y } else { false }
-}
-
-pub fn either(x: bool, y: bool) -> bool
-    ensures { λ r. ⌜ r ≡ (x || y) ⌝ }
-{
-    if x { true } else { y }
-}
 
 // Whether gate i is a one-qubit gate on the slot s.
 pub fn one_on(u: &[u32], i: usize, s: u32) -> bool

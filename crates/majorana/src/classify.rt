@@ -1,6 +1,5 @@
 // What a two-qubit block is.
 ghost use mathlib.Core.Path.{_≡_};
-ghost use mathlib.Core.Bool.{_||_};
 ghost use Rattle.majorana.specs.Classify.{diagonalOf, withoutPhaseOf, residual2Of, plainOf, swappedOf, classify2Of, rankOf, residualOf};
 use crate::diagonal::interaction;
 use crate::diagonal::offdiag4;
@@ -8,6 +7,7 @@ use crate::diagonal::phase_none;
 use crate::operators::swap4;
 use crate::two_modes::majorana_map2;
 use gate::Mat4;
+use num::either;
 
 // What a block is, with its matchgate residual where that counts.
 pub enum Kind2 {
@@ -119,16 +119,6 @@ fn swapped(tol: f64, diag: bool, r0: f64, u: Mat4, v: Mat4) -> Class2
         v: u,
         angled: false,
     }
-}
-
-// Without a branch of its own at the caller.
-fn either(a: bool, b: bool) -> bool
-    ensures { λ r. ⌜ r ≡ (a || b) ⌝ }
-{
-    if a {
-        return true;
-    }
-    b
 }
 
 // What the block u is: its own tests first, then, where relabelling is on, those of SWAP · u.

@@ -1,8 +1,8 @@
 // Whether a map commutes with the particle number.
 ghost use mathlib.Core.Path.{_≡_};
-ghost use mathlib.Core.Bool.{_&&_};
 ghost use Rattle.real.specs.Maps.{real4};
 ghost use Rattle.majorana.specs.Numbers.{commutesJ2Of, dot4Of, realRowMulOf, closeOf, closeRowOf, commutesRowOf, numberConserving4Of};
+use num::both;
 use real::Map2;
 use real::Map4;
 use real::Real4;
@@ -72,16 +72,6 @@ fn row_mul(row: Real4, m: Map4) -> Real4
     let x2 = dot(row, m.r0.x2, m.r1.x2, m.r2.x2, m.r3.x2);
     let x3 = dot(row, m.r0.x3, m.r1.x3, m.r2.x3, m.r3.x3);
     Real4 { x0, x1, x2, x3 }
-}
-
-// Without a branch of its own at the caller.
-fn both(a: bool, b: bool) -> bool
-    ensures { λ r. ⌜ r ≡ (a && b) ⌝ }
-{
-    if a {
-        return b;
-    }
-    false
 }
 
 // Whether two numbers are not further apart than 1e-9: a NaN is not.

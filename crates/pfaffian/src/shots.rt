@@ -152,13 +152,6 @@ fn measure_modes(m: &mut [f64], n: usize, draws: &[f64], first: usize, bits: &mu
     }
 }
 
-// An entry of the mode table, for an index.
-fn wide(x: u16) -> usize
-    ensures { λ r. ⌜ r ≡ x ⌝ }
-{
-    x as usize
-}
-
 // The bit of qubit q: the outcome of its mode.
 fn qubit_bit(bits: &[bool], modes: &[u16], n: usize, q: usize) -> u64
     requires { ⌜ n ≤ length (now modes) ⌝ }
@@ -166,7 +159,7 @@ fn qubit_bit(bits: &[bool], modes: &[u16], n: usize, q: usize) -> u64
     ensures bound { λ r. ⌜ r ≤ 1 ⌝ }
 {
     if q < n {
-        let k = wide(modes[q]);
+        let k = num::wide_index(modes[q]);
         if k < bits.len() {
             if bits[k] {
                 return 1;

@@ -14,9 +14,9 @@ ghost use Rattle.queries.specs.Marginals.{halfSpinOf, askedMatrix};
 ghost use Rattle.queries.specs.Calls.{covarianceOf, cleared};
 ghost use Rattle.queries.specs.Inner.{markAt, Ready, Modes, rowLaid, pairShifted, pairsShifted};
 use real::entry;
+use real::fill;
 use real::put;
 use state::covariance;
-use state::vacuum::fill;
 
 // The state's row that is row r of the modes' matrix.
 fn index(list: &[usize], r: usize) -> usize

@@ -13,11 +13,11 @@ ghost use Rattle.queries.specs.Calls.{covarianceOf, shotsOf, shotsOut, s
 ghost use Rattle.queries.specs.Inner.{Ready, rowLaid};
 use pfaffian::shot;
 use real::entry;
+use real::fill;
 use real::put;
 use state::Applied;
 use state::Refusal;
 use state::state_ok;
-use state::vacuum::fill;
 
 const MAX_SHOTS: usize = 65536;
 

@@ -41,10 +41,6 @@ fn report_agrees(r: Report, s: &[u8]) -> bool {
     stored::words_hold(&told, s, REPORT)
 }
 
-fn wide(x: u16) -> u64 {
-    x as u64
-}
-
 // Word i of a table of n entries; 0 beyond it.
 fn entry(s: &[u8], first: usize, i: usize, n: usize) -> u64 {
     if i < n {
@@ -56,7 +52,7 @@ fn entry(s: &[u8], first: usize, i: usize, n: usize) -> u64 {
 fn table_agrees(v: &[u16], s: &[u8], first: usize, n: usize) -> bool {
     let mut i = 0;
     while i < v.len() {
-        if wide(v[i]) != entry(s, first, i, n) {
+        if num::wide_word(v[i]) != entry(s, first, i, n) {
             return false;
         }
         i += 1;

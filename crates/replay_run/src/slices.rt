@@ -54,10 +54,6 @@ pub fn is_words(v: &[u64], words: &[u64], first: usize) -> bool {
     }
 }
 
-fn wide(x: u16) -> u64 {
-    x as u64
-}
-
 // Entry i of a table of n entries; 0 beyond it.
 fn entry(words: &[u64], first: usize, i: usize, n: usize) -> u64 {
     if i < n {
@@ -69,7 +65,7 @@ fn entry(words: &[u64], first: usize, i: usize, n: usize) -> u64 {
 pub fn table(v: &[u16; 128], words: &[u64], first: usize, n: usize) -> Compared {
     let mut i = 0;
     while i < 128 {
-        if wide(v[i]) != entry(words, first, i, n) {
+        if num::wide_word(v[i]) != entry(words, first, i, n) {
             return Compared::Differs(i);
         }
         i += 1;

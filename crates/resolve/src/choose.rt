@@ -6,7 +6,6 @@ ghost use Rattle.resolve.specs.Cuts.{cuts};
 ghost use Rattle.resolve.specs.Choose.{candidateOf, betterOf, offerOf, tryRow, chooseOf};
 ghost use Rattle.resolve.specs.Slots.{firstRow, secondRow};
 use crate::cuts::in_window;
-use fuse::either;
 use gate::Mat4;
 use gate::kron;
 use gate::load2;
@@ -16,6 +15,7 @@ use majorana::Kind2;
 use majorana::classify2;
 use majorana::rank;
 use majorana::residual;
+use num::either;
 
 // Rows of the records for what the cuts of the two tails take.
 pub const FIRST_ROW: usize = 40;

@@ -7,12 +7,12 @@ ghost use Rattle.fuse.specs.Layout.{Room};
 ghost use Rattle.resolve.specs.Cuts.{cuts, inWindow};
 ghost use Rattle.resolve.specs.Slots.{PassedOver, Prefixes};
 use fuse::block_on;
-use fuse::either;
 use fuse::matrix2;
 use fuse::one_on;
 use gate::identity2;
 use gate::store2;
 use gate::time_step;
+use num::either;
 
 // Longest prefix and suffix of a tail whose cut points are all tried.
 const CUT_WINDOW: usize = 8;

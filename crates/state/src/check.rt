@@ -17,18 +17,12 @@ const WORD: usize = 64; // bits of a word
 
 const ONES: u64 = 0xffff_ffff_ffff_ffff;
 
-fn wide(x: u16) -> usize
-    ensures { λ r. ⌜ r ≡ x ⌝ }
-{
-    x as usize
-}
-
 // The mode of qubit q.
 pub fn mode_at(modes: &[u16], q: usize) -> usize
     requires { ⌜ q < length (now modes) ⌝ }
     ensures { λ r. ⌜ r ≡ modeAt (now (modes .entry)) q ⌝ }
 {
-    wide(modes[q])
+    num::wide_index(modes[q])
 }
 
 // Each of the first n entries is its own number, as in the table of a fresh state. The last is looked at

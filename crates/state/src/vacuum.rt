@@ -1,27 +1,13 @@
 // The first state of a run.
 
 ghost use mathlib.Core.Path.{_≡_};
-ghost use Prim.Native.Nat.{_≤_};
-ghost use lib.ListN.{length};
-ghost use Rattle.laws.specs.Slices.{filled};
 ghost use Rattle.laws.specs.Matrix.{at, matrix};
 ghost use Rattle.state.specs.Bounds.{dimOf};
 ghost use Rattle.state.specs.State.{stored};
 ghost use Rattle.state.specs.State as spec;
 ghost use Rattle.state.specs.Parts.{HasState, paired};
+use real::fill;
 use real::put;
-
-// The first n places are x.
-pub fn fill(v: &mut [f64], n: usize, x: f64)
-    requires { ⌜ n ≤ length (now v) ⌝ }
-    ensures { λ _. ⌜ now (v .exit) ≡ filled n x (now (v .entry)) ⌝ }
-{
-    let mut i = 0;
-    while i < n {
-        v[i] = x;
-        i += 1;
-    }
-}
 
 // 1.0 and -1.0 beside the diagonal, for each of n modes.
 fn pair_up(m: &mut [f64], n: usize)

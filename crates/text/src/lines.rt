@@ -52,12 +52,6 @@ fn put_name(o: Ordering, out: &mut [u8], at: usize) -> usize
     }
 }
 
-fn wide(x: u16) -> u64
-    ensures { λ r. ⌜ r ≡ x ⌝ }
-{
-    x as u64
-}
-
 // The wires on the first n modes.
 fn put_wires(order: &[u16], n: usize, out: &mut [u8], at: usize) -> usize
     requires { ⌜ n ≤ length (now order) ⌝ }
@@ -67,7 +61,7 @@ fn put_wires(order: &[u16], n: usize, out: &mut [u8], at: usize) -> usize
     let mut next = at;
     let mut k = 0;
     while k < n {
-        next = put_field(b" ", wide(order[k]), out, next);
+        next = put_field(b" ", num::wide_word(order[k]), out, next);
         k += 1;
     }
     next

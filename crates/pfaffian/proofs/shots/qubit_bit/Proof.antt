@@ -10,18 +10,18 @@ use Rattle.pfaffian.proofs.shots.qubit_bit.Tie as tie
 returns : tie.Need-returns
 returns c =
     let r = c .before .before .before in
-    (rw (lt-ltb _ _ (r .before .before .if1 .taken), ← r .wide .ensures, c .if3 .taken), omega arith)
+    (rw (lt-ltb _ _ (r .before .before .if1 .taken), ← r .wide-index .ensures, c .if3 .taken), omega arith)
 
 returns-2 : tie.Need-returns-2
 returns-2 c =
     let r = c .before .before .before in
-    (rw (lt-ltb _ _ (r .before .before .if1 .taken), ← r .wide .ensures, c .if3 .left), omega arith)
+    (rw (lt-ltb _ _ (r .before .before .if1 .taken), ← r .wide-index .ensures, c .if3 .left), omega arith)
 
 returns-3 : tie.Need-returns-3
 returns-3 c =
     let r = c .before in
     let b = r .before .before .before .before .before in
-    (rw (lt-ltb _ _ (r .before .before .if1 .taken), ← r .wide .ensures, List·getD-eq-default (b .args .bits .now) false (c .if2 .left)), omega arith)
+    (rw (lt-ltb _ _ (r .before .before .if1 .taken), ← r .wide-index .ensures, List·getD-eq-default (b .args .bits .now) false (c .if2 .left)), omega arith)
 
 returns-4 : tie.Need-returns-4
 returns-4 c = (rw (le-ltb _ _ (c .if1 .left)), omega arith)

@@ -33,7 +33,7 @@ put-field-requires c κs =
     let t = c .before .before .before .before in
     let l = t .before .loop in
     let s = t .before .before .before .before in
-    rw (c .before .wide .ensures)
+    rw (c .before .wide-word .ensures)
     (piece-room (piece (s .args .order .now)) (l .k) (s .args .at) (s .args .out .now) (l .out) (l .next) (l .inv .1)
     (s .args .n) (t .loop-test .taken) (s .pre .1))
 
@@ -47,7 +47,7 @@ loop-again c =
     let a = t .before .before .before .before .args in (
       omega arith,
       piece-put (piece (a .order .now)) (l .k) (a .at) (a .out .now) (l .out) (l .next) (l .inv .1) _ _
-          (rw (w .wide .ensures) at (p .put-field .ensures)),
+          (rw (w .wide-word .ensures) at (p .put-field .ensures)),
     )
 
 returns : tie.Need-returns Inv-loop μ-loop

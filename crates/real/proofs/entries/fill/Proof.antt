@@ -1,4 +1,4 @@
--- `state::vacuum::fill` meets its contract: from the front. Assumes nothing.
+-- `real::entries::fill` meets its contract: from the front. Assumes nothing.
 use mathlib.Core.Path.{_≡_, refl}
 use Prim.Native.Nat.{_-_, _≤_}
 use native.Mathlib.Omega.{arith}
@@ -7,8 +7,8 @@ use lib.ListN.{length, length-set}
 use lib.Ieee.{nan}
 use Rattle.laws.specs.Slices.{filled}
 use Rattle.laws.proofs.Slices.{mapped-none, mapped-more, mapped-end}
-use Rattle.state.proofs.vacuum.fill.Statement.{statement}
-use Rattle.state.proofs.vacuum.fill.Tie as tie
+use Rattle.real.proofs.entries.fill.Statement.{statement}
+use Rattle.real.proofs.entries.fill.Tie as tie
 
 abbrev Inv-loop : tie.InvT-loop
 Inv-loop v₀ n x i₀ v i = ((i ≤ n) × (length v ≡ length v₀)) × (v ≡ filled i x v₀)
