@@ -18,6 +18,7 @@ use Rattle.gate.specs.declared.matrix.Mat4.{Mat4}
 use Rattle.tape.specs.Good.{GoodGate}
 use Rattle.tape.specs.declared.header.Header.{Header}
 use Rattle.tape.specs.declared.gates.Gate.{Gate}
+use Rattle.work.specs.Columns.{matchItem, diagonalItem, interactionItem}
 use Rattle.majorana.specs.Majorana.{majoranaMap2Of}
 use Rattle.majorana.specs.Diagonal.{phaseAOf, phaseBOf, interactionOf, unitOf, rotationOf}
 use Rattle.majorana.specs.declared.diagonal.Rotation.{Rotation}
@@ -32,29 +33,30 @@ use Rattle.detect.specs.Counts.{gaussian, interacting, bad, apart, adjacentShar
 use Rattle.detect.specs.Report.{freeOf}
 use Rattle.detect.specs.Compile.{reordersOf, matchPairs, itemsOf, orderOf, modeOf, tallyOf, programOf}
 use Rattle.detect.proofs.Wires.{wires-items}
-use Rattle.state.specs.Operation.{decodeOf}
-use Rattle.state.specs.declared.operation.Operation as state
+use Rattle.state.specs.Operation.{decodeOf, Fits}
 use Rattle.state.specs.declared.operation.Decoded.the-variants.{Good}
-use Rattle.evolve.specs.Evolve.{Fitting, AllFit}
+use Rattle.evolve.specs.Evolve.{readBack, AllFit}
 use Rattle.evolve.proofs.Decoding.{decode-one, decode-two, decode-interaction}
 
 -- such an operation is decoded
-pub fitting-decodes : (n : ℕ) (o : Operation) → n ≤ maxQubits → Fitting n o → (d : state.Operation) × (decodeOf n (placesOf o) ≡ Good d)
-fitting-decodes n (one k q) m f = (_, decode-one n k q f m)
-fitting-decodes n (two k q) m f = (_, decode-two n k q f m)
-fitting-decodes n (interaction k block second w) m f = (_, decode-interaction n k block second w)
+pub fits-decodes : (n : ℕ) (o : Operation) → n ≤ maxQubits → Fits n (readBack o) → decodeOf n (placesOf o) ≡ Good (readBack o)
+unfolding Fits
+fits-decodes n (one k q) m f = decode-one n k q f m
+fits-decodes n (two k q) m f = decode-two n k q f m
+fits-decodes n (interaction k block second w) m f = decode-interaction n k block second w
 
 module _ (n : ℕ) where
   -- ---- what an item becomes
 
   rotated-fits : (k : ℕ) (x : Rotation) → k < n → AllFit n (rotated k x)
+  unfolding Fits
   rotated-fits k (By q) h = (h, tt)
   rotated-fits k Nothing h = tt
 
   rotations-fit : (i j : ℕ) (v : Mat4) → i < n → j < n → AllFit n (rotationsOf i j v)
   unfolding rotationsOf
   rotations-fit i j v h g =
-      all-append (Fitting n) (rotated i (rotationOf (phaseAOf v))) (rotated j (rotationOf (phaseBOf v))) (rotated-fits i (rotationOf (phaseAOf v)) h)
+      all-append (λ o. Fits n (readBack o)) (rotated i (rotationOf (phaseAOf v))) (rotated j (rotationOf (phaseBOf v))) (rotated-fits i (rotationOf (phaseAOf v)) h)
       (rotated-fits j (rotationOf (phaseBOf v)) g)
 
   -- the lower of two neighbours has its successor below n
@@ -78,21 +80,22 @@ module _ (n : ℕ) where
       by false e = absurd (omega (arith, e))
 
   two-fit : (block kind i j : ℕ) (r : Float) (v : Mat4) → i < n → j < n → twoShare kind i j r v .bad ≡ 0 → AllFit n (twoOperations block kind i j v)
-  unfolding twoShare twoOperations
-  two-fit block kind i j r v h g e = by (eqb kind 5) (eqb kind 6) (eqb kind 7) e
+  unfolding twoShare twoOperations Fits
+  two-fit block kind i j r v h g e = by (eqb kind matchItem) (eqb kind diagonalItem) (eqb kind interactionItem) e
     where
       by : (a b c : Bool) → cond a (matchShare i j r v) (cond b (gaussian 1 (turnsIn v) f0 true) (cond c (interacting (turnsIn v + 1)) (bad 1 0 r))) .bad ≡ 0
           → AllFit n (cond a (two (lowerOf i j) (majoranaMap2Of (orientedOf i j v) .q) ∷ []) (cond b (rotationsOf i j v)
           (cond c (rotationsOf i j v ++ (interaction i block j (unitOf (interactionOf v)) ∷ [])) [])))
       by true b c e = (lower-fits i j h g (match-beside i j r v e), tt)
       by false true c e = rotations-fit i j v h g
-      by false false true e = all-append (Fitting n) (rotationsOf i j v) (interaction i block j (unitOf (interactionOf v)) ∷ []) (rotations-fit i j v h g) (tt, tt)
+      by false false true e = all-append (λ o. Fits n (readBack o)) (rotationsOf i j v) (interaction i block j (unitOf (interactionOf v)) ∷ []) (rotations-fit i j v h g) (tt, tt)
       by false false false e = tt
 
   -- ---- the items
 
   module _ (tol : Float) (pos : ℕ → ℕ) (there : (w : ℕ) → w < n → pos w < n) where
     item-fits : (block : ℕ) (x : Item) → ItemBelow n x → shareOf tol pos x .bad ≡ 0 → AllFit n (itemOperations pos block x)
+    unfolding Fits
     item-fits block (Items.one w u) h e = (there w h, tt)
     item-fits block (Items.two kind a b r v) h e = two-fit block kind (pos a) (pos b) r v (there a (h .0)) (there b (h .1)) e
     item-fits block Items.opaque h e = tt
@@ -101,7 +104,7 @@ module _ (n : ℕ) where
     unfolding operationsOf countedOnto plusOf
     operations-fit [] h e = tt
     operations-fit (x ∷ l) h e =
-        all-append (Fitting n) (operationsOf pos l) (itemOperations pos (length l) x) (operations-fit l (h .1) (omega (arith, e)))
+        all-append (λ o. Fits n (readBack o)) (operationsOf pos l) (itemOperations pos (length l) x) (operations-fit l (h .1) (omega (arith, e)))
         (item-fits (length l) x (h .0) (omega (arith, e)))
 
 -- ---- the program of a tape

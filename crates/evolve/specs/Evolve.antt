@@ -1,13 +1,15 @@
 -- A program run on the vacuum (001, `evolve`): its operations in order, each as `apply` decodes its 18 places. Definitions only.
 use mathlib.Core.List.{List, [], _∷_}
-use Prim.Native.Nat.{ℕ, zero, suc, _+_, _<_}
+use Prim.Native.Nat.{ℕ, zero, suc}
 use lib.ListN.{take, drop}
 use lib.Ieee.{Float}
 use Rattle.laws.specs.Lists.{All}
 use Rattle.laws.specs.Bounds.{opPlaces}
 use Rattle.detect.specs.Operation.{Operation, one, two, interaction, placesOf}
 use Rattle.state.specs.State.{State, vacuum}
-use Rattle.state.specs.Operation.{decodeOf, effect}
+use Rattle.state.specs.Operation.{interactionOf, decodeOf, effect, Fits}
+use Rattle.state.specs.declared.operation.Operation as state
+use Rattle.state.specs.declared.operation.Operation.the-variants.{One, Two}
 use Rattle.state.specs.declared.operation.Decoded.{Decoded}
 use Rattle.state.specs.declared.operation.Decoded.the-variants.{Good, Bad}
 
@@ -32,11 +34,12 @@ evolvedIn n (suc k) l t = evolvedIn n k (drop opPlaces l) (decodedEffect (decode
 
 -- ---- a program that fits n modes
 
--- question 17 of an operation: "the mode .. below n, for 2 its successor too"; "an interaction .. its mode unquestioned"
-abbrev pub Fitting : ℕ → Operation → Type 0
-Fitting n (one k q) = k < n
-Fitting n (two k q) = k + 1 < n
-Fitting n (interaction k block second w) = Unit {0}
+-- the operation as `apply` reads it from its places
+abbrev pub readBack : Operation → state.Operation
+readBack (one k q) = One k q
+readBack (two k q) = Two k q
+readBack (interaction k block second w) = interactionOf (placesOf (interaction k block second w))
 
+-- question 17 of each operation: "the mode .. below n, for 2 its successor too"; "an interaction .. its mode unquestioned"
 abbrev pub AllFit : ℕ → List Operation → Type 0
-AllFit n = All (Fitting n)
+AllFit n = All (λ o. Fits n (readBack o))
