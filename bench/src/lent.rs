@@ -1,6 +1,6 @@
 //! The slices that the port's `compile` and `run` get: old values in them, and a few places more than must be there.
 
-use crate::jozkeral::{self, Refused, Report, Work};
+use crate::jozkeral::{self, Refusal, Report, Work};
 use oracle::compiled::answer::{Compiled, PLACES};
 
 /// What stands in the slices before a call, and in the places that a call must leave alone.
@@ -21,7 +21,7 @@ pub struct Told {
 }
 
 impl Told {
-    fn of((report, answer): (Report, Result<(), Refused>)) -> Told {
+    fn of((report, answer): (Report, Result<(), Refusal>)) -> Told {
         Told { refused: answer.map_or_else(|r| [r.number, r.place], |()| [0, 0]), report }
     }
 

@@ -3,7 +3,7 @@
 //! for every tape of at most 128 qubits and 1,024 gates.
 
 use crate::library as c;
-pub use crate::library::Refused as Refusal;
+pub use crate::library::Refusal;
 
 #[cfg(test)]
 pub mod fake;

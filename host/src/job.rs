@@ -2,7 +2,7 @@
 //! answered.
 
 use crate::engine::{Compiled, Engine, Refusal, State};
-use crate::refusals::{self, Refused};
+use crate::refusals::{self, Explained};
 use crate::source::Source;
 
 /// A question besides all parities.
@@ -64,7 +64,7 @@ pub struct Asked {
 pub struct Outcome {
     /// The report and the operations, unless the tape itself was refused.
     pub compiled: Option<Compiled>,
-    pub answers: Result<Answers, Refused>,
+    pub answers: Result<Answers, Explained>,
 }
 
 #[derive(Debug)]

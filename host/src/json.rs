@@ -2,7 +2,7 @@
 
 use crate::engine::{Compiled, Operation, Ordering, Refusal, Report};
 use crate::job::{Answers, Outcome};
-use crate::refusals::{query_refused, Refused};
+use crate::refusals::{query_refused, Explained};
 use crate::report::{bits, is_exact, Context};
 use crate::tape::Record;
 use std::fmt;
@@ -129,7 +129,7 @@ pub fn value(context: &Context, outcome: &Outcome) -> Value {
     Object(members)
 }
 
-fn refusal(r: &Refused) -> Value {
+fn refusal(r: &Explained) -> Value {
     Object(vec![
         ("number", Whole(r.refusal.number)),
         ("place", Whole(r.refusal.place)),

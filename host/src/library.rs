@@ -7,7 +7,7 @@
 /// Why a call was refused: the question that has no for an answer (its number, 1 to 22), and the
 /// place that it names.
 #[derive(Clone, Copy, Debug, PartialEq, Eq)]
-pub struct Refused {
+pub struct Refusal {
     pub number: u64,
     pub place: u64,
 }
@@ -79,7 +79,7 @@ pub fn label(tape: &[u8], which: usize) -> Option<&[u8]> {
 }
 
 /// The report of a tape in any case; a refusal's is zero.
-pub fn compile(tape: &[u8], work: &mut Work, ops: &mut [f64]) -> (Report, Result<(), Refused>) {
+pub fn compile(tape: &[u8], work: &mut Work, ops: &mut [f64]) -> (Report, Result<(), Refusal>) {
     let (mut report, mut place) = (Report::blank(), [u64::MAX]);
     let number = call!(jozkeral_compile: r tape, w work.floats, w work.marks, w ops,
         w place, w report.words, w report.measures, w report.tables,);
@@ -92,26 +92,26 @@ pub fn run(
     work: &mut Work,
     ops: &mut [f64],
     state: &mut [f64],
-) -> (Report, Result<(), Refused>) {
+) -> (Report, Result<(), Refusal>) {
     let (mut report, mut place) = (Report::blank(), [u64::MAX]);
     let number = call!(jozkeral_run: r tape, w work.floats, w work.marks, w ops, w state,
         w place, w report.words, w report.measures, w report.tables,);
     (report, told(number, place, ()))
 }
 
-pub fn apply(n: usize, state: &mut [f64], modes: &[u16], op: &[f64]) -> Result<(), Refused> {
+pub fn apply(n: usize, state: &mut [f64], modes: &[u16], op: &[f64]) -> Result<(), Refusal> {
     told(call!(jozkeral_apply: n n, w state, r modes, r op,), [0], ())
 }
 
 impl State<'_> {
-    pub fn expectation_z(&self, q: usize) -> Result<f64, Refused> {
+    pub fn expectation_z(&self, q: usize) -> Result<f64, Refusal> {
         let (mut place, mut answer) = ([u64::MAX], [f64::NAN]);
         let number = call!(jozkeral_expectation_z: n self.n, r self.slice, r self.modes, n q,
             w place, w answer,);
         told(number, place, answer[0])
     }
 
-    pub fn z_correlation(&self, i: usize, j: usize, work: &mut [f64]) -> Result<f64, Refused> {
+    pub fn z_correlation(&self, i: usize, j: usize, work: &mut [f64]) -> Result<f64, Refusal> {
         let (mut place, mut answer) = ([u64::MAX], [f64::NAN]);
         let number = call!(jozkeral_z_correlation: n self.n, r self.slice, r self.modes, n i, n j,
             w work, w place, w answer,);
@@ -122,7 +122,7 @@ impl State<'_> {
         &self,
         qubits: &[usize],
         work: &mut [f64],
-    ) -> Result<f64, Refused> {
+    ) -> Result<f64, Refusal> {
         let (mut place, mut answer) = ([u64::MAX], [f64::NAN]);
         let number = call!(jozkeral_expectation_z_product: n self.n, r self.slice, r self.modes,
             r qubits, w work, w place, w answer,);
@@ -134,14 +134,14 @@ impl State<'_> {
         qubits: &[usize],
         bits: &[u8],
         work: &mut [f64],
-    ) -> Result<f64, Refused> {
+    ) -> Result<f64, Refusal> {
         let (mut place, mut answer) = ([u64::MAX], [f64::NAN]);
         let number = call!(jozkeral_marginal_probability: n self.n, r self.slice, r self.modes,
             r qubits, r bits, w work, w place, w answer,);
         told(number, place, answer[0])
     }
 
-    pub fn probability(&self, low: u64, high: u64, work: &mut [f64]) -> Result<f64, Refused> {
+    pub fn probability(&self, low: u64, high: u64, work: &mut [f64]) -> Result<f64, Refusal> {
         let mut answer = [f64::NAN];
         let number = call!(jozkeral_probability: n self.n, r self.slice, r self.modes,
             n low, n high, w work, w answer,);
@@ -155,7 +155,7 @@ impl State<'_> {
         draws: &[f64],
         work: &mut [f64],
         out: &mut [u64],
-    ) -> Result<(), Refused> {
+    ) -> Result<(), Refusal> {
         let mut place = [u64::MAX];
         let number = call!(jozkeral_sample: n self.n, r self.slice, r self.modes, n shots,
             r draws, w work, w out, w place,);
@@ -164,10 +164,10 @@ impl State<'_> {
 }
 
 /// What a call says: its value, unless its number is that of a question.
-fn told<T>(number: u64, [place]: [u64; 1], value: T) -> Result<T, Refused> {
+fn told<T>(number: u64, [place]: [u64; 1], value: T) -> Result<T, Refusal> {
     match number {
         0 => Ok(value),
-        number => Err(Refused { number, place }),
+        number => Err(Refusal { number, place }),
     }
 }
 

@@ -6,9 +6,9 @@ use crate::source::{Placed, Source};
 use crate::tape::Record;
 use crate::wording::{are, count};
 
-/// A refusal of a list or tape.
+/// A refusal of a list or tape, in words.
 #[derive(Debug, PartialEq)]
-pub struct Refused {
+pub struct Explained {
     pub refusal: Refusal,
     /// What it is about: a line, a record, the place where a list stops being accepted.
     pub place: Option<String>,
@@ -23,7 +23,7 @@ pub fn explain(
     source: &Source,
     compiled: Option<&Compiled>,
     engine: &dyn Engine,
-) -> Refused {
+) -> Explained {
     let number = refusal.number;
     let record = if (4..=8).contains(&number) { source.at(refusal.place) } else { None };
     let why = match compiled {
@@ -35,7 +35,7 @@ pub fn explain(
         11..=13 => stops_at(source, engine),
         _ => (None, None),
     };
-    Refused { refusal, place, line, why, advice: advice(number, source).to_string() }
+    Explained { refusal, place, line, why, advice: advice(number, source).to_string() }
 }
 
 fn at_record(

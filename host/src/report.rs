@@ -2,7 +2,7 @@
 
 use crate::engine::{Compiled, Operation, Ordering, Report};
 use crate::job::{Answers, Outcome, Query};
-use crate::refusals::{query_refused, Refused};
+use crate::refusals::{query_refused, Explained};
 use crate::source::Source;
 use crate::wording::{are, count, wrapped};
 use std::fmt::Write;
@@ -65,7 +65,7 @@ fn all_blocks(k: u64) -> String {
 }
 
 /// Why the list was refused, where, and what to do.
-fn refusal(refused: &Refused) -> String {
+fn refusal(refused: &Explained) -> String {
     let mut out = format!("refused: number {}\n\n", refused.refusal.number);
     item(&mut out, "why", &refused.why);
     if let Some(place) = &refused.place {
@@ -76,7 +76,7 @@ fn refusal(refused: &Refused) -> String {
 }
 
 /// A line for a refusal of the tape itself (questions 1 to 8).
-pub fn refused_line(refused: &Refused) -> String {
+pub fn refused_line(refused: &Explained) -> String {
     let place = refused.place.as_ref().map_or(String::new(), |p| format!("{p}: "));
     format!("{place}{} (refusal {}); {}", refused.why, refused.refusal.number, refused.advice)
 }

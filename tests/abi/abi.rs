@@ -9,7 +9,7 @@
 #[path = "../../host/src/library.rs"]
 mod jozkeral;
 
-use jozkeral::{Refused, State, Work};
+use jozkeral::{Refusal, State, Work};
 
 struct Rng(u64);
 
@@ -166,8 +166,8 @@ fn agree(r: &mut Rng, s: State) {
         s.expectation_z(i).unwrap(),
         s.expectation_z_product(&[j, i, j], &mut work).unwrap()
     );
-    assert_eq!(s.expectation_z(s.n), Err(Refused { number: 19, place: 0 }));
-    assert_eq!(s.z_correlation(i, s.n, &mut work), Err(Refused { number: 19, place: 1 }));
+    assert_eq!(s.expectation_z(s.n), Err(Refusal { number: 19, place: 0 }));
+    assert_eq!(s.z_correlation(i, s.n, &mut work), Err(Refusal { number: 19, place: 1 }));
     assert!(work.iter().take(4).all(|x| x.to_bits() == 0));
 }
 
