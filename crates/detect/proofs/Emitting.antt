@@ -16,7 +16,7 @@ use Rattle.real.specs.declared.maps.Map2.{Map2}
 use Rattle.gate.specs.Complex.{f0}
 use Rattle.gate.specs.declared.matrix.Mat4.{Mat4}
 use Rattle.work.specs.Marks.{markAt}
-use Rattle.work.specs.Columns.{kindColumn, aColumn, bColumn}
+use Rattle.work.specs.Columns.{kindColumn, aColumn, bColumn, matchItem, diagonalItem, interactionItem}
 use Rattle.fuse.specs.Layout.{matrix4Of}
 use Rattle.majorana.specs.Diagonal.{phaseAOf, phaseBOf, interactionOf, unitOf, rotationOf}
 use Rattle.majorana.specs.Majorana.{majoranaMap1Of, majoranaMap2Of}
@@ -102,7 +102,7 @@ match-operations i j r v = go (besideOf i j)
 
 two-operations : (block kind i j : ℕ) (r : Float) (v : Mat4) → twoShare kind i j r v .operations ≡ length (twoOperations block kind i j v)
 unfolding twoShare twoOperations
-two-operations block kind i j r v = go (eqb kind 5) (eqb kind 6) (eqb kind 7)
+two-operations block kind i j r v = go (eqb kind matchItem) (eqb kind diagonalItem) (eqb kind interactionItem)
   where
     go : (a b c : Bool) → cond a (matchShare i j r v) (cond b (gaussian 1 (turnsIn v) f0 true) (cond c (interacting (turnsIn v + 1)) (bad 1 0 r))) .operations
         ≡ length (cond a (two (lowerOf i j) (majoranaMap2Of (orientedOf i j v) .q) ∷ []) (cond b (rotationsOf i j v) (cond c (rotationsOf i j v ++ (interaction i block j (unitOf (interactionOf v)) ∷ [])) [])))
@@ -151,21 +151,21 @@ module _ (n : ℕ) (pos pos′ : ℕ → ℕ) (same : (w : ℕ) → w < n → po
 -- ---- by kind
 
 module _ (block kind i j : ℕ) (v : Mat4) where
-  two-match : kind ≡ 5 → twoOperations block kind i j v ≡ two (lowerOf i j) (majoranaMap2Of (orientedOf i j v) .q) ∷ []
+  two-match : kind ≡ matchItem → twoOperations block kind i j v ≡ two (lowerOf i j) (majoranaMap2Of (orientedOf i j v) .q) ∷ []
   unfolding twoOperations
   two-match e = rw e refl
 
-  pub two-diagonal : kind ≡ 6 → twoOperations block kind i j v ≡ rotationsOf i j v
+  pub two-diagonal : kind ≡ diagonalItem → twoOperations block kind i j v ≡ rotationsOf i j v
   unfolding twoOperations
   two-diagonal e = rw e refl
 
-  pub two-interaction : kind ≡ 7 → twoOperations block kind i j v ≡ rotationsOf i j v ++ (interaction i block j (unitOf (interactionOf v)) ∷ [])
+  pub two-interaction : kind ≡ interactionItem → twoOperations block kind i j v ≡ rotationsOf i j v ++ (interaction i block j (unitOf (interactionOf v)) ∷ [])
   unfolding twoOperations
   two-interaction e = rw e refl
 
-  pub two-neither : (kind ≡ 5 → ⊥) → (kind ≡ 6 → ⊥) → (kind ≡ 7 → ⊥) → twoOperations block kind i j v ≡ []
+  pub two-neither : (kind ≡ matchItem → ⊥) → (kind ≡ diagonalItem → ⊥) → (kind ≡ interactionItem → ⊥) → twoOperations block kind i j v ≡ []
   unfolding twoOperations
-  two-neither a b c = rw (ne-eqb kind 5 a, ne-eqb kind 6 b, ne-eqb kind 7 c)
+  two-neither a b c = rw (ne-eqb kind matchItem a, ne-eqb kind diagonalItem b, ne-eqb kind interactionItem c)
 
 -- the operation of the matchgate of record i
 module _ (xs : List Float) (us : List ℕ) (pos : ℕ → ℕ) where
@@ -175,7 +175,7 @@ module _ (xs : List Float) (us : List ℕ) (pos : ℕ → ℕ) where
       let b = pos (markAt us i bColumn) in
       two (lowerOf a b) (majoranaMap2Of (orientedOf a b (matrix4Of xs i)) .q)
 
-  pub record-match : (block i : ℕ) → markAt us i kindColumn ≡ 5 → itemOperations pos block (recordItem xs us i) ≡ matchOf i ∷ []
+  pub record-match : (block i : ℕ) → markAt us i kindColumn ≡ matchItem → itemOperations pos block (recordItem xs us i) ≡ matchOf i ∷ []
   record-match block i e =
       rw (record-two xs us i (λ q. omega (arith, e, q)) (λ q. omega (arith, e, q)))
       (two-match block (markAt us i kindColumn) (pos (markAt us i aColumn)) (pos (markAt us i bColumn)) (matrix4Of xs i) e)

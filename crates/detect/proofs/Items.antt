@@ -12,7 +12,7 @@ use borrow.Author.Tests.{ne-eqb, le-leb, lt-leb}
 use Rattle.laws.proofs.Cases.{lt-or-le, eq-or-ne}
 use Rattle.gate.specs.declared.matrix.Mat2.{Mat2}
 use Rattle.work.specs.Marks.{markAt}
-use Rattle.work.specs.Columns.{kindColumn, aColumn, bColumn}
+use Rattle.work.specs.Columns.{kindColumn, aColumn, bColumn, oneItem, matchItem, neitherItem, opaqueItem}
 use Rattle.fuse.specs.Layout.{matrix2Of, matrix4Of}
 use Rattle.resolve.specs.Items as Items
 use Rattle.resolve.specs.Items.{Item, newestFirst, ItemBelow, ItemsBelow}
@@ -25,31 +25,31 @@ abbrev Says : ℕ → ℕ → ℕ → Mat2 → Item → Type 0
 Says k a b m x = item k a b m x ≡ cond (isItemOf k) (itemBy k (Items.one a m) x ∷ []) []
 
 kind-item : (k a b : ℕ) (m : Mat2) (x : Item) → Says k a b m x
-kind-item k a b m x = go (lt-or-le k 4) (lt-or-le 9 k)
+kind-item k a b m x = go (lt-or-le k oneItem) (lt-or-le opaqueItem k)
   where
-    inside : (4 ≤ k) → (k ≤ 9) → (k ≡ 4) ⊎ (k ≢ 4) → (k ≡ 9) ⊎ (k ≢ 9) → Says k a b m x
+    inside : (oneItem ≤ k) → (k ≤ opaqueItem) → (k ≡ oneItem) ⊎ (k ≢ oneItem) → (k ≡ opaqueItem) ⊎ (k ≢ opaqueItem) → Says k a b m x
     inside l h (inl e) q = rw e refl
     inside l h (inr ne) (inl e) = rw e refl
     inside l h (inr ne) (inr nf) =
-        let lo : 5 ≤ k = omega (arith, ne) in
-        let hi : k ≤ 8 = omega (arith, nf) in
-        rw (ne-eqb k 4 ne, ne-eqb k 9 nf, le-leb 5 k lo, le-leb k 8 hi, le-leb 4 k l, le-leb k 9 h)
+        let lo : matchItem ≤ k = omega (arith, ne) in
+        let hi : k ≤ neitherItem = omega (arith, nf) in
+        rw (ne-eqb k oneItem ne, ne-eqb k opaqueItem nf, le-leb matchItem k lo, le-leb k neitherItem hi, le-leb oneItem k l, le-leb k opaqueItem h)
 
-    go : (k < 4) ⊎ (4 ≤ k) → (9 < k) ⊎ (k ≤ 9) → Says k a b m x
+    go : (k < oneItem) ⊎ (oneItem ≤ k) → (opaqueItem < k) ⊎ (k ≤ opaqueItem) → Says k a b m x
     go (inl h) q =
-        let n4 : k ≢ 4 = λ e. omega arith in
-        let n9 : k ≢ 9 = λ e. omega arith in
-        rw (ne-eqb k 4 n4, ne-eqb k 9 n9, lt-leb 5 k (omega arith), lt-leb 4 k h)
+        let not-one : k ≢ oneItem = λ e. omega arith in
+        let not-opaque : k ≢ opaqueItem = λ e. omega arith in
+        rw (ne-eqb k oneItem not-one, ne-eqb k opaqueItem not-opaque, lt-leb matchItem k (omega arith), lt-leb oneItem k h)
     go (inr l) (inl h) =
-        let n4 : k ≢ 4 = λ e. omega arith in
-        let n9 : k ≢ 9 = λ e. omega arith in
-        rw (ne-eqb k 4 n4, ne-eqb k 9 n9, le-leb 5 k (omega arith), lt-leb k 8 (omega arith), le-leb 4 k l, lt-leb k 9 h)
-    go (inr l) (inr h) = inside l h (eq-or-ne k 4) (eq-or-ne k 9)
+        let not-one : k ≢ oneItem = λ e. omega arith in
+        let not-opaque : k ≢ opaqueItem = λ e. omega arith in
+        rw (ne-eqb k oneItem not-one, ne-eqb k opaqueItem not-opaque, le-leb matchItem k (omega arith), lt-leb k neitherItem (omega arith), le-leb oneItem k l, lt-leb k opaqueItem h)
+    go (inr l) (inr h) = inside l h (eq-or-ne k oneItem) (eq-or-ne k opaqueItem)
 
 module _ (xs : List Float) (us : List ℕ) where
   record-items : (i : ℕ) → itemAt xs us i ≡ cond (isItemOf (markAt us i kindColumn)) (recordItem xs us i ∷ []) []
   unfolding itemAt
-  record-items i = kind-item (markAt us i 0) (markAt us i 1) (markAt us i 2) (matrix2Of xs i) (Items.two (markAt us i 0) (markAt us i 1) (markAt us i 2) (residualAt xs i) (matrix4Of xs i))
+  record-items i = kind-item (markAt us i kindColumn) (markAt us i aColumn) (markAt us i bColumn) (matrix2Of xs i) (Items.two (markAt us i kindColumn) (markAt us i aColumn) (markAt us i bColumn) (residualAt xs i) (matrix4Of xs i))
 
   -- ---- one record more
 
@@ -93,23 +93,23 @@ module _ (xs : List Float) (us : List ℕ) where
 
   -- ---- the item, given the kind
 
-  pub record-one : (i : ℕ) → markAt us i kindColumn ≡ 4 → recordItem xs us i ≡ Items.one (markAt us i aColumn) (matrix2Of xs i)
+  pub record-one : (i : ℕ) → markAt us i kindColumn ≡ oneItem → recordItem xs us i ≡ Items.one (markAt us i aColumn) (matrix2Of xs i)
   record-one i e = rw e refl
 
-  pub record-opaque : (i : ℕ) → markAt us i kindColumn ≡ 9 → recordItem xs us i ≡ Items.opaque
+  pub record-opaque : (i : ℕ) → markAt us i kindColumn ≡ opaqueItem → recordItem xs us i ≡ Items.opaque
   record-opaque i e = rw e refl
 
-  pub record-two : (i : ℕ) → markAt us i kindColumn ≢ 4 → markAt us i kindColumn ≢ 9
+  pub record-two : (i : ℕ) → markAt us i kindColumn ≢ oneItem → markAt us i kindColumn ≢ opaqueItem
       → recordItem xs us i ≡ Items.two (markAt us i kindColumn) (markAt us i aColumn) (markAt us i bColumn) (residualAt xs i) (matrix4Of xs i)
-  record-two i a b = rw (ne-eqb (markAt us i kindColumn) 4 a, ne-eqb (markAt us i kindColumn) 9 b)
+  record-two i a b = rw (ne-eqb (markAt us i kindColumn) oneItem a, ne-eqb (markAt us i kindColumn) opaqueItem b)
 
-  pub wires-below : (n i : ℕ) → markAt us i kindColumn ≢ 4 → markAt us i kindColumn ≢ 9 → ItemBelow n (recordItem xs us i)
+  pub wires-below : (n i : ℕ) → markAt us i kindColumn ≢ oneItem → markAt us i kindColumn ≢ opaqueItem → ItemBelow n (recordItem xs us i)
       → (markAt us i aColumn < n) × (markAt us i bColumn < n)
   wires-below n i a b h = rw (record-two i a b) at h
 
-  pub wire-below : (n i : ℕ) → markAt us i kindColumn ≢ 9 → ItemBelow n (recordItem xs us i) → markAt us i aColumn < n
-  wire-below n i b h = go (eq-or-ne (markAt us i kindColumn) 4)
+  pub wire-below : (n i : ℕ) → markAt us i kindColumn ≢ opaqueItem → ItemBelow n (recordItem xs us i) → markAt us i aColumn < n
+  wire-below n i b h = go (eq-or-ne (markAt us i kindColumn) oneItem)
     where
-      go : (markAt us i kindColumn ≡ 4) ⊎ (markAt us i kindColumn ≢ 4) → markAt us i aColumn < n
+      go : (markAt us i kindColumn ≡ oneItem) ⊎ (markAt us i kindColumn ≢ oneItem) → markAt us i aColumn < n
       go (inl e) = rw (record-one i e) at h
       go (inr a) = wires-below n i a b h .0

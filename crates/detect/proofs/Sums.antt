@@ -9,6 +9,7 @@ use lib.ListN.{length}
 use lib.Ieee.{Float, le}
 use Rattle.gate.specs.Complex.{f0}
 use Rattle.gate.specs.declared.matrix.Mat4.{Mat4}
+use Rattle.work.specs.Columns.{matchItem, diagonalItem, interactionItem}
 use Rattle.order.specs.Arrangement.{besideOf}
 use Rattle.majorana.specs.Majorana.{majoranaMap1Of, majoranaMap2Of}
 use Rattle.majorana.specs.Diagonal.{phaseAOf, phaseBOf, rotationOf}
@@ -65,7 +66,7 @@ turns-few v = omega (arith, once (rotationOf (phaseAOf v)), once (rotationOf (ph
 
 two-adds : (kind i j : ℕ) (r : Float) (v : Mat4) → Adds (twoShare kind i j r v) 1
 unfolding twoShare
-two-adds kind i j r v = go (eqb kind 5) (eqb kind 6) (eqb kind 7)
+two-adds kind i j r v = go (eqb kind matchItem) (eqb kind diagonalItem) (eqb kind interactionItem)
   where
     go : (a b c : Bool) → Adds (cond a (matchShare i j r v) (cond b (gaussian 1 (turnsIn v) f0 true) (cond c (interacting (turnsIn v + 1)) (bad 1 0 r)))) 1
     go true b c = match-adds i j r v
