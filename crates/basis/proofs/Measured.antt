@@ -25,7 +25,7 @@ use Rattle.num.specs.Order.{clampOf}
 use Rattle.monomial.specs.Basis.{basis, IsBasis}
 use Rattle.monomial.proofs.Moves.{basis-small}
 use Rattle.monomial.proofs.States.{basis-apart}
-use Rattle.pfaffian.specs.Shot.{half, tiny, mabOf, drawnOf, drawn, spinOf, denOf, den, projected, updated, next}
+use Rattle.pfaffian.specs.Shot.{half, tiny, mabOf, drawnOf, drawn, spinOf, denOf, den, projected, updated, afterMode}
 use Rattle.queries.specs.Samples.{drawOkOf}
 
 -- ---- the numbers
@@ -203,7 +203,7 @@ module _ (dim k : ℕ) (b : ℕ → Bool) (m : Mat) (room : 2 * k + 1 < dim) (M 
   factor : Float
   factor = div binary64 (spinOf (b k)) two
 
-  next-is : next m k (b k) ≡ updated m factor k
+  next-is : afterMode m k (b k) ≡ updated m factor k
   unfolding factor
   next-is =
       ap (λ (x : Float). cond (le x tiny) m (updated m (div binary64 (spinOf (b k)) x) k)) den-is
@@ -264,5 +264,5 @@ module _ (dim k : ℕ) (b : ℕ → Bool) (m : Mat) (room : 2 * k + 1 < dim) (M 
       by false later′ right left lr lc = M r c hr hc
 
   -- the matrix
-  pub next-keeps : IsBasis dim b (next m k (b k))
+  pub next-keeps : IsBasis dim b (afterMode m k (b k))
   next-keeps = subst (IsBasis dim b) (sym next-is) updated-is

@@ -25,7 +25,7 @@ use Rattle.monomial.proofs.States.{modesAt, basis-apart}
 use Rattle.state.specs.Bounds.{dimOf}
 use Rattle.state.specs.State.{State, get}
 use Rattle.state.specs.Apply.{later, unsettled, settled, step}
-use Rattle.basis.specs.Holds.{Holds}
+use Rattle.basis.specs.Holds.{HoldsBits}
 
 -- ---- two signs that go by modes
 
@@ -111,7 +111,7 @@ stepped-one true true true = (true, refl)
 
 -- ---- a state that holds a basis state
 
-module _ (n : ℕ) (b : ℕ → Bool) (t : State) (H : Holds n b t) where
+module _ (n : ℕ) (b : ℕ → Bool) (t : State) (H : HoldsBits n b t) where
   sign-in : (k i : ℕ) (h : k < n) → i / 2 ≡ k → t .d i ≡ sg (H .signs k h .0) +1
   sign-in k i h e = by (eq-or-ne (i % 2) 0)
     where
@@ -161,7 +161,7 @@ module _ (n : ℕ) (b : ℕ → Bool) (t : State) (H : Holds n b t) where
   -- a step by a map that moves the covariance of b to that of b′, whatever the determinant
   pub step-holds : (isOdd : Local → Bool) (k w : ℕ) (q : Mat) (b′ : ℕ → Bool)
       → ((m : Mat) → IsBasis (dimOf n) b m → IsBasis (dimOf n) b′ (cols (modesAt k w q) (rows (modesAt k w q) m)))
-      → Holds n b′ (step isOdd (modesAt k w q) t)
+      → HoldsBits n b′ (step isOdd (modesAt k w q) t)
   step-holds isOdd k w q b′ moves = record { matrix = moves (settled o t) (settled-basis k w q); signs = signs }
     where
       o : Local

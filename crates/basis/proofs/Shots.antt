@@ -17,7 +17,7 @@ use Rattle.laws.specs.Tables.{modeAt}
 use Rattle.laws.proofs.Cases.{lt-or-le}
 use Rattle.laws.proofs.Views.{up-same}
 use Rattle.monomial.specs.Basis.{IsBasis}
-use Rattle.pfaffian.specs.Shot.{drawFrom, qubitBit, wordOf, shot, next, reached, outcome}
+use Rattle.pfaffian.specs.Shot.{drawFrom, qubitBit, wordOf, shot, afterMode, reached, outcome}
 use Rattle.pfaffian.proofs.Listing.{shot-at, word-same}
 use Rattle.state.specs.Bounds.{dimOf}
 use Rattle.state.specs.Answers.{accepted, refused}
@@ -42,7 +42,7 @@ module _ (n : ℕ) (b : ℕ → Bool) (e : Mat) (t : ℕ → Float) (E : IsBasis
       let m = reached e t k in
       let M = reached-is k (omega arith) in
       let room : 2 * k + 1 < dimOf n = omega arith in
-      subst (λ (one : Bool). IsBasis (dimOf n) b (next m k one)) (sym (drawn-is (dimOf n) k b m room M (t k) (ok k h)))
+      subst (λ (one : Bool). IsBasis (dimOf n) b (afterMode m k one)) (sym (drawn-is (dimOf n) k b m room M (t k) (ok k h)))
       (next-keeps (dimOf n) k b m room M)
 
   outcome-is : (k : ℕ) → k < n → outcome e t k ≡ b k

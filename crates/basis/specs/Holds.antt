@@ -16,7 +16,7 @@ use Rattle.state.specs.State.{State}
 use Rattle.state.specs.Modes.{isPermutation}
 
 -- t holds the basis state of the bits b on n modes. The two signs of a mode are the same, 1.0 or -1.0: they turn together or not at all
-pub record Holds (n : ℕ) (b : ℕ → Bool) (t : State) : Type 0 where
+pub record HoldsBits (n : ℕ) (b : ℕ → Bool) (t : State) : Type 0 where
   pub matrix : IsBasis (dimOf n) b (t .m)
   pub signs : (k : ℕ) → k < n → (s : Bool) × (t .d (2 * k) ≡ sg s +1) × (t .d (2 * k + 1) ≡ sg s +1)
 

@@ -28,7 +28,7 @@ use Rattle.queries.specs.Samples.{shotsOk, badDrawOf}
 use Rattle.queries.specs.Calls.{covarianceOf, workOk, worked, productAnswer, markedAnswer, stoppedOf, shotsOf}
 use Rattle.queries.specs.Calls.{expectationZProductOf, marginalProbabilityOf, probabilityOf, sampleOf}
 use Rattle.detect.specs.Report.{freeOf}
-use Rattle.detect.specs.Compile.{tallyOf, programOf, reportedOf}
+use Rattle.detect.specs.Compile.{tapeCounts, programOf, reportedOf}
 use Rattle.register.specs.Register.{RegisterTape, registerBits}
 use Rattle.basis.specs.Holds.{Reads}
 use Rattle.basis.proofs.Steps.{slice-reads}
@@ -131,7 +131,7 @@ module _ (t : List ℕ) (h : Header) (c : Content) (e : parse t ≡ accepted h c
       rw (stored-long (dimOf (h .n)) (evolved (h .n) (programOf h (c .gates))) s (left h c s) room refl) room in
       rw (le-leb (h .n) maxQubits (qubits-few t h c e), le-leb (statePlaces (dimOf (h .n))) (length (left h c s)) long) (table-permutes t h c e)
 
-  module _ (register : RegisterTape t) (free : freeOf (tallyOf h (c .gates)) ≡ true) where
+  module _ (register : RegisterTape t) (free : freeOf (tapeCounts h (c .gates)) ≡ true) where
     tape-reads : (b : ℕ → Bool) × Reads (h .n) b (registerBits (c .gates)) (covarianceOf (h .n) (left h c s)) (reportedOf h (c .gates) .modes)
     tape-reads =
         let w = tape-holds t h c e register free in (

@@ -17,7 +17,7 @@ use Rattle.detect.specs.Counts.{twoShare}
 use Rattle.detect.specs.Operation.{interaction}
 use Rattle.detect.specs.Emit.{rotationsOf, twoOperations, itemOperations, operationsOf}
 use Rattle.state.specs.State.{State, vacuum}
-use Rattle.basis.specs.Holds.{Holds}
+use Rattle.basis.specs.Holds.{HoldsBits}
 use Rattle.basis.proofs.Steps.{vacuum-holds}
 use Rattle.evolve.specs.Evolve.{evolvedFrom}
 use Rattle.register.specs.Bits.{turn2, zeros}
@@ -33,14 +33,14 @@ use Rattle.claim.proofs.Matchgates.{turn-holds, match-holds}
 -- ---- two wires, of modes i and j
 
 module _ (n : ℕ) (few : n ≤ maxQubits) (block i j : ℕ) (li : i < n) (lj : j < n) (v : Mat4) (c : Mono4) (H : Has4 v c) (b : ℕ → Bool)
-    (t : State) (h : Holds n b t) where
+    (t : State) (h : HoldsBits n b t) where
   -- where the kind is k
   abbrev Moves : ℕ → Type 0
-  Moves k = Holds n (turn2 i j v b) (evolvedFrom n (twoOperations block k i j v) t)
+  Moves k = HoldsBits n (turn2 i j v b) (evolvedFrom n (twoOperations block k i j v) t)
 
   -- a diagonal block changes no bit
-  stays : diagonal c ≡ true → (s : State) → Holds n b s → Holds n (turn2 i j v b) s
-  stays d s = subst (λ (f : ℕ → Bool). Holds n f s) (sym (diagonal-still i j v c H d b))
+  stays : diagonal c ≡ true → (s : State) → HoldsBits n b s → HoldsBits n (turn2 i j v b) s
+  stays d s = subst (λ (f : ℕ → Bool). HoldsBits n f s) (sym (diagonal-still i j v c H d b))
 
   pub two-moves : (relabel : Bool) (kind : ℕ) (r : Float) → KindIs relabel c kind → twoShare kind i j r v .bad ≡ 0 → Moves kind
   unfolding twoOperations
@@ -60,19 +60,19 @@ module _ (n : ℕ) (few : n ≤ maxQubits) (block i j : ℕ) (li : i < n) (lj : 
 
 module _ (n : ℕ) (few : n ≤ maxQubits) (pos : ℕ → ℕ) (p : Apart n pos) (tol : Float) (relabel : Bool) (Q : Mono4 → Type 0) (P : ℕ → ℕ → Type 0)
     (Still : Type 0) where
-  item-moves : (x : Item) → ItemIs relabel n Q P Still x → Free tol pos x → (block : ℕ) (b : ℕ → Bool) (t : State) → Holds n b t
-      → Holds n (modeBits pos x b) (evolvedFrom n (itemOperations pos block x) t)
+  item-moves : (x : Item) → ItemIs relabel n Q P Still x → Free tol pos x → (block : ℕ) (b : ℕ → Bool) (t : State) → HoldsBits n b t
+      → HoldsBits n (modeBits pos x b) (evolvedFrom n (itemOperations pos block x) t)
   item-moves (one w m) i f block b t h = turn-holds n few b t h (pos w) m (i .1 .0) (i .1 .1) (p .below w (i .0))
   item-moves (two kind v w r u) i f block b t h =
       two-moves n few block (pos v) (pos w) (p .below v (i .0 .0)) (p .below w (i .0 .1)) u (i .1 .0) (i .1 .1) b t h relabel kind r (i .1 .3) f
   item-moves opaque i f block b t h = absurd i
 
   pub items-hold : (xs : List Item) → All (ItemIs relabel n Q P Still) xs → All (Free tol pos) xs
-      → Holds n (modesRun pos xs zeros) (evolvedFrom n (operationsOf pos xs) vacuum)
+      → HoldsBits n (modesRun pos xs zeros) (evolvedFrom n (operationsOf pos xs) vacuum)
   unfolding operationsOf modesRun evolvedFrom
   items-hold [] i f = vacuum-holds n
   items-hold (x ∷ xs) i f =
       let b = modesRun pos xs zeros in
       let os = operationsOf pos xs in
-      subst (Holds n (modeBits pos x b)) (sym (evolved-append n os (itemOperations pos (length xs) x) vacuum))
+      subst (HoldsBits n (modeBits pos x b)) (sym (evolved-append n os (itemOperations pos (length xs) x) vacuum))
       (item-moves x (i .0) (f .0) (length xs) b (evolvedFrom n os vacuum) (items-hold xs (i .1) (f .1)))

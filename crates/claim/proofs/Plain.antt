@@ -26,7 +26,7 @@ use Rattle.resolve.specs.Items.{Item, one, two, opaque}
 use Rattle.detect.specs.declared.count.Counts.{Counts}
 use Rattle.detect.specs.Emit.{orientedOf}
 use Rattle.detect.specs.Counts.{apart, oneShare, adjacentShare, matchShare, twoShare, plusOf, shareOf, countedOnto, countsOf}
-use Rattle.detect.specs.Compile.{relabelsOf, reordersOf, labelsOf, itemsOf, orderOf, modeOf, modeOfQubit, tallyOf}
+use Rattle.detect.specs.Compile.{relabelsOf, reordersOf, labelsOf, itemsOf, orderOf, modeOfWire, modeOfQubit, tapeCounts}
 use Rattle.register.specs.Register.{RegisterTape}
 use Rattle.register.specs.Blocks.{Turn}
 use Rattle.register.specs.Follows.{PlainGate, GaussianItem, Plain}
@@ -78,18 +78,18 @@ module _ (t : List ℕ) (h : Header) (c : Content) (e : parse t ≡ accepted h c
   unfolding itemsOf labelsOf
   fused = tape-plain t h c e r (relabelsOf h) plain
 
-  wire-stays : (w : ℕ) → w < h .n → modeOf h (c .gates) w ≡ w
+  wire-stays : (w : ℕ) → w < h .n → modeOfWire h (c .gates) w ≡ w
   unfolding orderOf
   wire-stays w l = ap (λ a. find w (a .order)) (plain-order (reordersOf h) (h .n) (itemsOf h (c .gates) .items) (fused .items)) ∙ wire-mode (h .n) w l
 
   -- the qubit q has the mode q
   pub plain-identity : (q : ℕ) → q < h .n → modeOfQubit h (c .gates) q ≡ q
   plain-identity q l =
-      ap (λ (s : ℕ). modeOf h (c .gates) (getD (itemsOf h (c .gates) .content) s 0)) (fused .lab q l)
-      ∙ ap (modeOf h (c .gates)) (fused .content q l)
+      ap (λ (s : ℕ). modeOfWire h (c .gates) (getD (itemsOf h (c .gates) .content) s 0)) (fused .lab q l)
+      ∙ ap (modeOfWire h (c .gates)) (fused .content q l)
       ∙ wire-stays q l
 
   -- no bad blocks, so none that are nonadjacent, and no interactions
-  pub plain-free : (tallyOf h (c .gates) .bad ≡ 0) × (tallyOf h (c .gates) .nonadjacent ≡ 0) × (tallyOf h (c .gates) .interactions ≡ 0)
-  unfolding tallyOf
-  plain-free = counts-clear (h .tolerance) (tolerance t h c e r (relabelsOf h)) (h .n) (modeOf h (c .gates)) wire-stays _ (fused .items)
+  pub plain-free : (tapeCounts h (c .gates) .bad ≡ 0) × (tapeCounts h (c .gates) .nonadjacent ≡ 0) × (tapeCounts h (c .gates) .interactions ≡ 0)
+  unfolding tapeCounts
+  plain-free = counts-clear (h .tolerance) (tolerance t h c e r (relabelsOf h)) (h .n) (modeOfWire h (c .gates)) wire-stays _ (fused .items)

@@ -18,7 +18,7 @@ use Rattle.monomial.proofs.Rotations.{rotation-is}
 use Rattle.detect.specs.Emit.{rotated, rotationsOf}
 use Rattle.detect.specs.Operation.{interaction}
 use Rattle.state.specs.State.{State}
-use Rattle.basis.specs.Holds.{Holds}
+use Rattle.basis.specs.Holds.{HoldsBits}
 use Rattle.basis.proofs.Steps.{rotation-holds}
 use Rattle.evolve.specs.Evolve.{evolvedFrom}
 use Rattle.claim.proofs.Operations.{evolved-append, one-applied, interaction-applied}
@@ -48,29 +48,29 @@ diagonal-phased v c h d = by (c .swap) (c .turnA) (c .turnB) (c .phases) h d
 -- ---- rotations
 
 module _ (n : ℕ) (few : n ≤ maxQubits) (b : ℕ → Bool) where
-  rotated-holds : (k : ℕ) (z : Complex) (l : Phase) → IsEntry z (unit l) → k < n → (t : State) → Holds n b t
-      → Holds n b (evolvedFrom n (rotated k (rotationOf z)) t)
+  rotated-holds : (k : ℕ) (z : Complex) (l : Phase) → IsEntry z (unit l) → k < n → (t : State) → HoldsBits n b t
+      → HoldsBits n b (evolvedFrom n (rotated k (rotationOf z)) t)
   unfolding evolvedFrom
   rotated-holds k z l e lk t h =
-      subst (λ (r : Rotation). Holds n b (evolvedFrom n (rotated k r) t)) (sym (rotation-is z l e)) (by (not (eqPhase l i0)))
+      subst (λ (r : Rotation). HoldsBits n b (evolvedFrom n (rotated k r) t)) (sym (rotation-is z l e)) (by (not (eqPhase l i0)))
     where
-      by : (s : Bool) → Holds n b (evolvedFrom n (rotated k (cond s (By (rotationMapOf (unitOf z))) Nothing)) t)
+      by : (s : Bool) → HoldsBits n b (evolvedFrom n (rotated k (cond s (By (rotationMapOf (unitOf z))) Nothing)) t)
       by true =
-          subst (Holds n b) (sym (one-applied n few t k (rotationMapOf (unitOf z)) lk))
+          subst (HoldsBits n b) (sym (one-applied n few t k (rotationMapOf (unitOf z)) lk))
           (rotation-holds n k b t z l e lk h)
       by false = h
 
-  module _ (i j : ℕ) (li : i < n) (lj : j < n) (v : Mat4) (p : Phased v) (t : State) (h : Holds n b t) where
-    pub rotations-hold : Holds n b (evolvedFrom n (rotationsOf i j v) t)
+  module _ (i j : ℕ) (li : i < n) (lj : j < n) (v : Mat4) (p : Phased v) (t : State) (h : HoldsBits n b t) where
+    pub rotations-hold : HoldsBits n b (evolvedFrom n (rotationsOf i j v) t)
     unfolding rotationsOf
     rotations-hold =
         let os = rotated i (rotationOf (phaseAOf v)) in
-        subst (Holds n b) (sym (evolved-append n os (rotated j (rotationOf (phaseBOf v))) t))
+        subst (HoldsBits n b) (sym (evolved-append n os (rotated j (rotationOf (phaseBOf v))) t))
         (rotated-holds j (phaseBOf v) (p .second) (p .b) lj (evolvedFrom n os t)
         (rotated-holds i (phaseAOf v) (p .first) (p .a) li t h))
 
-    pub interactions-hold : (block : ℕ) (w : Complex) → Holds n b (evolvedFrom n (rotationsOf i j v ++ (interaction i block j w ∷ [])) t)
+    pub interactions-hold : (block : ℕ) (w : Complex) → HoldsBits n b (evolvedFrom n (rotationsOf i j v ++ (interaction i block j w ∷ [])) t)
     interactions-hold block w =
-        subst (Holds n b)
+        subst (HoldsBits n b)
         (sym (evolved-append n (rotationsOf i j v) (interaction i block j w ∷ []) t
         ∙ interaction-applied n few (evolvedFrom n (rotationsOf i j v) t) i block j w)) rotations-hold

@@ -15,8 +15,8 @@ use Rattle.order.proofs.Permutation.{order-permutes}
 use Rattle.resolve.specs.Items.{Item, one, two, opaque, ItemBelow}
 use Rattle.detect.specs.Report.{freeOf}
 use Rattle.detect.specs.Emit.{operationsOf}
-use Rattle.detect.specs.Compile.{relabelsOf, reordersOf, matchPairs, labelsOf, itemsOf, orderOf, modeOf, modeOfQubit, tallyOf, programOf}
-use Rattle.basis.specs.Holds.{Holds}
+use Rattle.detect.specs.Compile.{relabelsOf, reordersOf, matchPairs, labelsOf, itemsOf, orderOf, modeOfWire, modeOfQubit, tapeCounts, programOf}
+use Rattle.basis.specs.Holds.{HoldsBits}
 use Rattle.evolve.specs.Evolve.{evolved}
 use Rattle.monomial.specs.Monomial.{Mono4}
 use Rattle.register.specs.Register.{RegisterTape, registerBits}
@@ -32,7 +32,7 @@ use Rattle.claim.proofs.Tables.{qubits-few}
 
 -- ---- the modes of the wires
 
-modes-apart : (h : Header) (gs : List Gate) → Apart (h .n) (modeOf h gs)
+modes-apart : (h : Header) (gs : List Gate) → Apart (h .n) (modeOfWire h gs)
 unfolding orderOf
 modes-apart h gs =
     let p = order-permutes (reordersOf h) (h .n) (matchPairs (itemsOf h gs .items)) in
@@ -51,19 +51,19 @@ item-below relabel n Q P Still opaque i = absurd i
 
 -- the last bits of the modes
 abbrev finalBits : Header → List Gate → ℕ → Bool
-finalBits h gs = modesRun (modeOf h gs) (itemsOf h gs .items) zeros
+finalBits h gs = modesRun (modeOfWire h gs) (itemsOf h gs .items) zeros
 
 module _ (h : Header) (gs : List Gate) (f : Follows (relabelsOf h) (h .n) EvenSum anyPair ⊥ gs (labelsOf h gs) (itemsOf h gs)) where
-  program-holds : h .n ≤ maxQubits → freeOf (tallyOf h gs) ≡ true → Holds (h .n) (finalBits h gs) (evolved (h .n) (programOf h gs))
-  unfolding programOf tallyOf
+  program-holds : h .n ≤ maxQubits → freeOf (tapeCounts h gs) ≡ true → HoldsBits (h .n) (finalBits h gs) (evolved (h .n) (programOf h gs))
+  unfolding programOf tapeCounts
   program-holds few free =
-      subst (λ (s : Bool). Holds (h .n) (finalBits h gs) (evolved (h .n) (cond s (operationsOf (modeOf h gs) (itemsOf h gs .items)) []))) (sym free)
-      (items-hold (h .n) few (modeOf h gs) (modes-apart h gs) (h .tolerance) (relabelsOf h) EvenSum anyPair ⊥ (itemsOf h gs .items) (f .items)
-      (all-free (h .tolerance) (modeOf h gs) (itemsOf h gs .items) (eqb-true (tallyOf h gs .bad) 0 free)))
+      subst (λ (s : Bool). HoldsBits (h .n) (finalBits h gs) (evolved (h .n) (cond s (operationsOf (modeOfWire h gs) (itemsOf h gs .items)) []))) (sym free)
+      (items-hold (h .n) few (modeOfWire h gs) (modes-apart h gs) (h .tolerance) (relabelsOf h) EvenSum anyPair ⊥ (itemsOf h gs .items) (f .items)
+      (all-free (h .tolerance) (modeOfWire h gs) (itemsOf h gs .items) (eqb-true (tapeCounts h gs .bad) 0 free)))
 
   program-bits : (q : ℕ) → q < h .n → finalBits h gs (modeOfQubit h gs q) ≡ registerBits gs q
   program-bits q l =
-      items-agree (h .n) (modeOf h gs) (modes-apart h gs) (itemsOf h gs .items) zeros zeros
+      items-agree (h .n) (modeOfWire h gs) (modes-apart h gs) (itemsOf h gs .items) zeros zeros
       (all-map (item-below (relabelsOf h) (h .n) EvenSum anyPair ⊥) (itemsOf h gs .items) (f .items)) (λ w lw. refl)
       (getD (itemsOf h gs .content) (getD (labelsOf h gs .lab) q 0) 0) (f .content .below (getD (labelsOf h gs .lab) q 0) (f .lab .below q l))
       ∙ sym (f .bits q l)
@@ -75,8 +75,8 @@ module _ (t : List ℕ) (h : Header) (c : Content) (e : parse t ≡ accepted h c
   unfolding labelsOf itemsOf
   follows r = tape-follows t h c e r (relabelsOf h)
 
-  pub tape-holds : RegisterTape t → freeOf (tallyOf h (c .gates)) ≡ true
-      → (b : ℕ → Bool) × Holds (h .n) b (evolved (h .n) (programOf h (c .gates)))
+  pub tape-holds : RegisterTape t → freeOf (tapeCounts h (c .gates)) ≡ true
+      → (b : ℕ → Bool) × HoldsBits (h .n) b (evolved (h .n) (programOf h (c .gates)))
       × ((q : ℕ) → q < h .n → b (modeOfQubit h (c .gates) q) ≡ registerBits (c .gates) q)
   tape-holds r free =
       (finalBits h (c .gates), program-holds h (c .gates) (follows r) (qubits-few t h c e) free, program-bits h (c .gates) (follows r))

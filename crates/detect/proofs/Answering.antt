@@ -16,7 +16,7 @@ use Rattle.detect.specs.Operation.{Operation, allPlaces, written}
 use Rattle.detect.specs.Emit.{operationsOf}
 use Rattle.detect.specs.Records.{itemsIn, modesIn}
 use Rattle.detect.specs.Report.{freeOf, reportOf}
-use Rattle.detect.specs.Compile.{itemsOf, modeOf, tallyOf, reportedOf, programOf, refusal, done, answerOf, writtenOf}
+use Rattle.detect.specs.Compile.{itemsOf, modeOfWire, tapeCounts, reportedOf, programOf, refusal, done, answerOf, writtenOf}
 use Rattle.detect.specs.Program.{Detected}
 use Rattle.detect.proofs.Placing.{length-all, placed-none}
 use Rattle.detect.proofs.Emitting.{counts-operations, operations-same}
@@ -54,33 +54,33 @@ unfolding allPlaces
 written-none l = placed-none 0 l
 
 module _ (h : Header) (gs : List Gate) where
-  tally-operations : tallyOf h gs .operations ≡ length (operationsOf (modeOf h gs) (itemsOf h gs .items))
-  unfolding tallyOf
-  tally-operations = counts-operations (h .tolerance) (modeOf h gs) (itemsOf h gs .items)
+  tally-operations : tapeCounts h gs .operations ≡ length (operationsOf (modeOfWire h gs) (itemsOf h gs .items))
+  unfolding tapeCounts
+  tally-operations = counts-operations (h .tolerance) (modeOfWire h gs) (itemsOf h gs .items)
 
-  no-program : freeOf (tallyOf h gs) ≡ false → programOf h gs ≡ []
+  no-program : freeOf (tapeCounts h gs) ≡ false → programOf h gs ≡ []
   unfolding programOf
   no-program e = rw e refl
 
-  pub reported-free : reportedOf h gs .free ≡ freeOf (tallyOf h gs)
+  pub reported-free : reportedOf h gs .free ≡ freeOf (tapeCounts h gs)
   unfolding reportedOf reportOf
   reported-free = refl
 
   pub reported-operations : reportedOf h gs .operations ≡ length (programOf h gs)
   unfolding reportedOf reportOf programOf
-  reported-operations = go (freeOf (tallyOf h gs))
+  reported-operations = go (freeOf (tapeCounts h gs))
     where
-      go : (t : Bool) → cond t (tallyOf h gs .operations) 0 ≡ length (cond t (operationsOf (modeOf h gs) (itemsOf h gs .items)) [])
+      go : (t : Bool) → cond t (tapeCounts h gs .operations) 0 ≡ length (cond t (operationsOf (modeOfWire h gs) (itemsOf h gs .items)) [])
       go true = tally-operations
       go false = refl
 
   -- ---- what is written
 
   module _ (g : ℕ) (xs ys : List Float) (us vs : List ℕ) (r : Report) (d : Detected h gs g xs ys us vs r) where
-    emits : operationsOf (modesIn vs) (itemsIn ys vs (g + h .n)) ≡ operationsOf (modeOf h gs) (itemsOf h gs .items)
-    emits = operations-same (h .n) (modesIn vs) (modeOf h gs) (d .modes) (itemsIn ys vs (g + h .n)) (d .held .below) ∙ ap (operationsOf (modeOf h gs)) (d .items)
+    emits : operationsOf (modesIn vs) (itemsIn ys vs (g + h .n)) ≡ operationsOf (modeOfWire h gs) (itemsOf h gs .items)
+    emits = operations-same (h .n) (modesIn vs) (modeOfWire h gs) (d .modes) (itemsIn ys vs (g + h .n)) (d .held .below) ∙ ap (operationsOf (modeOfWire h gs)) (d .items)
 
-    free-is : r .free ≡ freeOf (tallyOf h gs)
+    free-is : r .free ≡ freeOf (tapeCounts h gs)
     free-is = ap (λ r. r .free) (d .report) ∙ reported-free
 
     number-is : r .operations ≡ length (programOf h gs)

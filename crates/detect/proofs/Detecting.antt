@@ -41,7 +41,7 @@ use Rattle.resolve.proofs.Wholes.{gates-fused}
 use Rattle.detect.specs.Counts.{countsOf}
 use Rattle.detect.specs.Report.{table}
 use Rattle.detect.specs.Records.{isItemOf, recordItem, itemsIn, modesIn, qubitMode, ColumnBelow, Held}
-use Rattle.detect.specs.Compile.{relabelsOf, reordersOf, matchPairs, labelsOf, itemsOf, orderOf, modeOf, modeOfQubit, tallyOf}
+use Rattle.detect.specs.Compile.{relabelsOf, reordersOf, matchPairs, labelsOf, itemsOf, orderOf, modeOfWire, modeOfQubit, tapeCounts}
 use Rattle.detect.proofs.Items.{items-more, items-same, below-at, wires-below}
 use Rattle.detect.proofs.Emitting.{counts-same}
 use Rattle.detect.proofs.Entries.{table-same}
@@ -49,7 +49,7 @@ use Rattle.detect.proofs.Wires.{slots-permute, content-permutes, wires-
 
 -- ---- the pairs
 
-pairs-append : (a b : List Pairs.Item) → pairsOf (a ++ b) ≡ pairsOf a ++ pairsOf b
+pairs-append : (a b : List Pairs.ItemRow) → pairsOf (a ++ b) ≡ pairsOf a ++ pairsOf b
 unfolding pairsOf
 pairs-append [] b = refl
 pairs-append (x ∷ a) b = go (eqb (x .kind) matchItem) (pairs-append a b)
@@ -66,9 +66,9 @@ module _ (xs : List Float) (us : List ℕ) where
   pairs-more : (m : ℕ) → pairsIn us (suc m) ≡ pairsIn us m ++ last m
   unfolding pairsOf upFrom
   pairs-more m =
-      let split : listOf (suc m) (Pairs.itemAt us) ≡ listOf m (Pairs.itemAt us) ++ (Pairs.itemAt us m ∷ []) =
-      ap (upFrom (Pairs.itemAt us) 0) (sym (add-one m)) ∙ up-join (Pairs.itemAt us) 0 m 1 ∙ ap (λ k. upFrom (Pairs.itemAt us) 0 m ++ (Pairs.itemAt us k ∷ [])) (zero-add m) in
-      ap pairsOf split ∙ pairs-append (listOf m (Pairs.itemAt us)) (Pairs.itemAt us m ∷ [])
+      let split : listOf (suc m) (Pairs.itemRow us) ≡ listOf m (Pairs.itemRow us) ++ (Pairs.itemRow us m ∷ []) =
+      ap (upFrom (Pairs.itemRow us) 0) (sym (add-one m)) ∙ up-join (Pairs.itemRow us) 0 m 1 ∙ ap (λ k. upFrom (Pairs.itemRow us) 0 m ++ (Pairs.itemRow us k ∷ [])) (zero-add m) in
+      ap pairsOf split ∙ pairs-append (listOf m (Pairs.itemRow us)) (Pairs.itemRow us m ∷ [])
 
   -- what the item of a record adds
   match-more : (i : ℕ) (l : List Item) → isItemOf (markAt us i kindColumn) ≡ true → matchPairs (recordItem xs us i ∷ l) ≡ matchPairs l ++ last i
@@ -154,9 +154,9 @@ pub record Told (t : List ℕ) (h : Header) (g : ℕ) (ys : List Float) (vs : Li
   pub angled : tl .angled ≡ itemsOf h (gatesOf t) .angled
   pub name : o ≡ orderOf h (gatesOf t) .name
   pub items : itemsIn ys vs (g + h .n) ≡ itemsOf h (gatesOf t) .items
-  pub modes : (v : ℕ) → v < h .n → modesIn vs v ≡ modeOf h (gatesOf t) v
+  pub modes : (v : ℕ) → v < h .n → modesIn vs v ≡ modeOfWire h (gatesOf t) v
   pub held : Held ys vs (g + h .n) (h .n)
-  pub counts : countsOf (h .tolerance) (modesIn vs) (itemsIn ys vs (g + h .n)) ≡ tallyOf h (gatesOf t)
+  pub counts : countsOf (h .tolerance) (modesIn vs) (itemsIn ys vs (g + h .n)) ≡ tapeCounts h (gatesOf t)
   pub order : table (h .n) (column orderColumn vs) ≡ table (h .n) (λ k. getD (orderOf h (gatesOf t) .order) k 0)
   pub starts : table (h .n) (column startColumn vs) ≡ table (h .n) (λ k. getD (orderOf h (gatesOf t) .starts) k 0)
   pub qubits : table (h .n) (qubitMode vs) ≡ table (h .n) (modeOfQubit h (gatesOf t))
@@ -221,7 +221,7 @@ module _ (t : List ℕ) (h : Header) (good : (x : Gate) → List·Memᴰ x (gate
     items-told : itemsIn xs₂ us₃ (g + h .n) ≡ itemsOf h (gatesOf t) .items
     items-told = items-stay (columns 8 18) xs₂ us₂ us₃ refl refl refl (a .only) (g + h .n) ∙ items-are
 
-    mode-told : (v : ℕ) → v < h .n → modesIn us₃ v ≡ modeOf h (gatesOf t) v
+    mode-told : (v : ℕ) → v < h .n → modesIn us₃ v ≡ modeOfWire h (gatesOf t) v
     mode-told v l = a .holds .pos v l ∙ ap (λ x. find v (x .order)) order-is
 
     order-told : (k : ℕ) → k < h .n → markAt us₃ k orderColumn ≡ getD (orderOf h (gatesOf t) .order) k 0
@@ -267,11 +267,11 @@ module _ (t : List ℕ) (h : Header) (good : (x : Gate) → List·Memᴰ x (gate
       below = rw items-told (wires-items h (gatesOf t) good);
     }
 
-    counts-told : countsOf (h .tolerance) (modesIn us₃) (itemsIn xs₂ us₃ (g + h .n)) ≡ tallyOf h (gatesOf t)
-    unfolding tallyOf
+    counts-told : countsOf (h .tolerance) (modesIn us₃) (itemsIn xs₂ us₃ (g + h .n)) ≡ tapeCounts h (gatesOf t)
+    unfolding tapeCounts
     counts-told =
-        counts-same (h .n) (modesIn us₃) (modeOf h (gatesOf t)) mode-told (h .tolerance) (itemsIn xs₂ us₃ (g + h .n)) (held-told .below)
-        ∙ ap (countsOf (h .tolerance) (modeOf h (gatesOf t))) items-told
+        counts-same (h .n) (modesIn us₃) (modeOfWire h (gatesOf t)) mode-told (h .tolerance) (itemsIn xs₂ us₃ (g + h .n)) (held-told .below)
+        ∙ ap (countsOf (h .tolerance) (modeOfWire h (gatesOf t))) items-told
 
     pub told : Told t h g xs₂ us₃ tl o
     told = record {

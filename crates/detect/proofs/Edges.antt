@@ -55,7 +55,7 @@ use Rattle.resolve.specs.Resolve.{settled, candidates, chosen, resolved, withRe
 use Rattle.resolve.specs.Whole.{Fused, fusedOf, resolvedOf, fuseOf}
 use Rattle.detect.specs.Counts.{adjacentShare, matchShare, twoShare, plusOf, countedOnto, countsOf}
 use Rattle.detect.specs.Report.{table, reportOf}
-use Rattle.detect.specs.Compile.{matchPairs, labelsOf, itemsOf, orderOf, tallyOf, reportedOf}
+use Rattle.detect.specs.Compile.{matchPairs, labelsOf, itemsOf, orderOf, tapeCounts, reportedOf}
 
 -- n qubits, flags, tolerance 0
 abbrev header : ℕ → ℕ → Header
@@ -161,8 +161,8 @@ orders = (
 module _ (h : Header) (gs : List Gate) (xs : List Item) (content : List ℕ) (swaps : ℕ) (angled : Bool) (a : Arrangement) (f : Fusing h gs xs content swaps angled)
     (o : orderOf h gs ≡ a) where
   -- the report's parts, by the items and the order
-  pub tally-is : tallyOf h gs ≡ countsOf (h .tolerance) (λ w. find w (a .order)) xs
-  unfolding tallyOf
+  pub tally-is : tapeCounts h gs ≡ countsOf (h .tolerance) (λ w. find w (a .order)) xs
+  unfolding tapeCounts
   tally-is = ap₂ (λ a xs. countsOf (h .tolerance) (λ w. find w (a .order)) xs) o (f .items)
 
   pub modes-by : reportedOf h gs .modes ≡ table (h .n) (λ q. find (getD content (getD (listOf (h .n) (λ q. q)) q 0) 0) (a .order))

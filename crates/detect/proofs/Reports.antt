@@ -11,16 +11,16 @@ use Rattle.tape.specs.Good.{GoodGate}
 use Rattle.tape.specs.declared.header.Header.{Header}
 use Rattle.tape.specs.declared.gates.Gate.{Gate}
 use Rattle.detect.specs.Report.{fractionOf, reportOf}
-use Rattle.detect.specs.Compile.{itemsOf, modeOf, modeOfQubit, tallyOf, reportedOf, programOf}
+use Rattle.detect.specs.Compile.{itemsOf, modeOfWire, modeOfQubit, tapeCounts, reportedOf, programOf}
 use Rattle.detect.proofs.Sums.{Adds, counts-add}
 use Rattle.detect.proofs.Entries.{table-at}
 use Rattle.detect.proofs.Wires.{mode-below, modes-apart}
 use Rattle.detect.proofs.Answering.{reported-operations}
 
 module _ (h : Header) (gs : List Gate) where
-  adds : Adds (tallyOf h gs) (length (itemsOf h gs .items))
-  unfolding tallyOf
-  adds = counts-add (h .tolerance) (modeOf h gs) (itemsOf h gs .items)
+  adds : Adds (tapeCounts h gs) (length (itemsOf h gs .items))
+  unfolding tapeCounts
+  adds = counts-add (h .tolerance) (modeOfWire h gs) (itemsOf h gs .items)
 
   -- "A report counts blocks = Gaussian + bad + interactions, over the item list"
   pub blocks-add : reportedOf h gs .blocks ≡ reportedOf h gs .gaussian + reportedOf h gs .bad + reportedOf h gs .interactions
@@ -41,7 +41,7 @@ module _ (h : Header) (gs : List Gate) where
   -- "No blocks: fraction 1.0"
   pub no-blocks : reportedOf h gs .blocks ≡ 0 → reportedOf h gs .fraction ≡ f1
   unfolding reportedOf reportOf fractionOf
-  no-blocks e = rw (eq-eqb (tallyOf h gs .blocks) 0 e)
+  no-blocks e = rw (eq-eqb (tapeCounts h gs .blocks) 0 e)
 
   -- the mode table, for gates that pass the questions
   module _ (few : h .n ≤ maxQubits) (good : (x : Gate) → List·Memᴰ x gs → GoodGate (h .n) x) where

@@ -61,33 +61,33 @@ module _ (h : Header) (gs : List Gate) where
   orderOf = chooseOrderOf (reordersOf h) (h .n) (matchPairs (itemsOf .items))
 
   -- the mode of wire w
-  abbrev pub modeOf : ℕ → ℕ
-  modeOf w = find w (orderOf .order)
+  abbrev pub modeOfWire : ℕ → ℕ
+  modeOfWire w = find w (orderOf .order)
 
   -- of qubit q: `pos[content[slot_of_qubit[q]]]`
   abbrev pub modeOfQubit : ℕ → ℕ
-  modeOfQubit q = modeOf (getD (itemsOf .content) (getD (labelsOf .lab) q 0) 0)
+  modeOfQubit q = modeOfWire (getD (itemsOf .content) (getD (labelsOf .lab) q 0) 0)
 
-  unfoldable pub tallyOf : Counts
-  tallyOf = countsOf (h .tolerance) modeOf (itemsOf .items)
+  unfoldable pub tapeCounts : Counts
+  tapeCounts = countsOf (h .tolerance) modeOfWire (itemsOf .items)
 
   unfoldable pub reportedOf : Report
   reportedOf =
-      reportOf (h .n) tallyOf (itemsOf .swaps) (itemsOf .angled) (orderOf .name) (table (h .n) (λ k. getD (orderOf .order) k 0))
+      reportOf (h .n) tapeCounts (itemsOf .swaps) (itemsOf .angled) (orderOf .name) (table (h .n) (λ k. getD (orderOf .order) k 0))
       (table (h .n) (λ k. getD (orderOf .starts) k 0)) (table (h .n) modeOfQubit)
 
   -- "Operations are empty when anything is bad"
   unfoldable pub programOf : List Operation
-  programOf = cond (freeOf tallyOf) (operationsOf modeOf (itemsOf .items)) []
+  programOf = cond (freeOf tapeCounts) (operationsOf modeOfWire (itemsOf .items)) []
 
 -- ---- the questions
 
 -- "64(G+n) f64 and 32(G+n) u32 places"
-abbrev pub floatsOf : ℕ → ℕ → ℕ
-floatsOf g n = 64 * (g + n)
+abbrev pub workFloats : ℕ → ℕ → ℕ
+workFloats g n = 64 * (g + n)
 
-abbrev pub marksOf : ℕ → ℕ → ℕ
-marksOf g n = 32 * (g + n)
+abbrev pub workMarks : ℕ → ℕ → ℕ
+workMarks g n = 32 * (g + n)
 
 abbrev pub refusal : ℕ → ℕ → Compiled
 refusal number place = record { answer = Answer.Refused number place; report = noReport }
@@ -105,7 +105,7 @@ writtenOf os l = cond (ltb (length l) (opPlaces * length os)) l (written os l)
 
 -- 9. Has work 64(G+n) f64 and 32(G+n) u32 places? w and u are there.
 abbrev pub hasWork : ℕ → ℕ → ℕ → ℕ → Bool
-hasWork g n w u = cond (ltb w (floatsOf g n)) Bool.false (cond (ltb u (marksOf g n)) Bool.false Bool.true)
+hasWork g n w u = cond (ltb w (workFloats g n)) Bool.false (cond (ltb u (workMarks g n)) Bool.false Bool.true)
 
 abbrev pub checkedAnswer : Header → List Gate → ℕ → ℕ → ℕ → ℕ → Compiled
 checkedAnswer h gs g w u o = cond (hasWork g (h .n) w u) (answerOf o (reportedOf h gs) (programOf h gs)) (refusal 9 0)
@@ -139,14 +139,14 @@ abbrev pub compiled : List ℕ → List Float → List ℕ → List Float → Co
 compiled t work marks ops = compileOf (parse t) (length work) (length marks) (length ops)
 
 abbrev pub compiledWork : List ℕ → List Float → List ℕ → List Float
-compiledWork t work marks = workAfter (parse t) (length work) (length marks) floatsOf f0 work
+compiledWork t work marks = workAfter (parse t) (length work) (length marks) workFloats f0 work
 
 abbrev pub compiledMarks : List ℕ → List Float → List ℕ → List ℕ
-compiledMarks t work marks = workAfter (parse t) (length work) (length marks) marksOf 0 marks
+compiledMarks t work marks = workAfter (parse t) (length work) (length marks) workMarks 0 marks
 
 abbrev pub compiledOps : List ℕ → List Float → List ℕ → List Float → List Float
 compiledOps t work marks ops = opsAfter (parse t) (length work) (length marks) ops
 
 -- a tape of g gates that passes 1 to 8, and exactly the work that 9 names
 abbrev pub Lent : List ℕ → Header → ℕ → List Float → List ℕ → Type 0
-Lent t h g w u = Gates t g (h .n) × (h .n ≤ maxQubits) × (g ≤ maxGates) × (length w ≡ floatsOf g (h .n)) × (length u ≡ marksOf g (h .n))
+Lent t h g w u = Gates t g (h .n) × (h .n ≤ maxQubits) × (g ≤ maxGates) × (length w ≡ workFloats g (h .n)) × (length u ≡ workMarks g (h .n))

@@ -29,12 +29,12 @@ abbrev pub whole : ℕ → Float
 whole k = ofInt binary64 (pos k)
 
 -- "unused places 0.0": kinds 1 and 3 leave twelve
-abbrev pub unused : List Float
-unused = f0 ∷ f0 ∷ f0 ∷ f0 ∷ f0 ∷ f0 ∷ f0 ∷ f0 ∷ f0 ∷ f0 ∷ f0 ∷ f0 ∷ []
+abbrev pub unusedPlaces : List Float
+unusedPlaces = f0 ∷ f0 ∷ f0 ∷ f0 ∷ f0 ∷ f0 ∷ f0 ∷ f0 ∷ f0 ∷ f0 ∷ f0 ∷ f0 ∷ []
 
 -- "kind 1 has a 2 by 2 map first"
 abbrev pub onePlaces : ℕ → Map2 → List Float
-onePlaces k q = f1 ∷ whole k ∷ q .r0 .x0 ∷ q .r0 .x1 ∷ q .r1 .x0 ∷ q .r1 .x1 ∷ unused
+onePlaces k q = f1 ∷ whole k ∷ q .r0 .x0 ∷ q .r0 .x1 ∷ q .r1 .x0 ∷ q .r1 .x1 ∷ unusedPlaces
 
 -- "kind 2 a 4 by 4"
 abbrev pub twoPlaces : ℕ → Map4 → List Float
@@ -48,7 +48,7 @@ twoPlaces k q =
 
 -- "kind 3 block, second mode and the unit of w"
 abbrev pub interactionPlaces : ℕ → ℕ → ℕ → Complex → List Float
-interactionPlaces k block second w = f3 ∷ whole k ∷ whole block ∷ whole second ∷ w .re ∷ w .im ∷ unused
+interactionPlaces k block second w = f3 ∷ whole k ∷ whole block ∷ whole second ∷ w .re ∷ w .im ∷ unusedPlaces
 
 unfoldable pub placesOf : Operation → List Float
 placesOf (one k q) = onePlaces k q

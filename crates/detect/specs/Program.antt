@@ -10,13 +10,13 @@ use Rattle.tape.specs.declared.gates.Gate.{Gate}
 use Rattle.detect.specs.declared.report.Report.{Report}
 use Rattle.detect.specs.Records.{itemsIn, modesIn, Held}
 use Rattle.detect.specs.Kept.{Kept}
-use Rattle.detect.specs.Compile.{itemsOf, modeOf, reportedOf}
+use Rattle.detect.specs.Compile.{itemsOf, modeOfWire, reportedOf}
 
 pub record Detected (h : Header) (gs : List Gate) (g : ℕ) (xs ys : List Float) (us vs : List ℕ) (r : Report) : Type 0 where
   pub report : r ≡ reportedOf h gs
   pub size : length ys ≡ length xs
   pub marks : length vs ≡ length us
   pub items : itemsIn ys vs (g + h .n) ≡ itemsOf h gs .items
-  pub modes : (w : ℕ) → w < h .n → modesIn vs w ≡ modeOf h gs w
+  pub modes : (w : ℕ) → w < h .n → modesIn vs w ≡ modeOfWire h gs w
   pub held : Held ys vs (g + h .n) (h .n)
   pub kept : r .free ≡ true → Kept ys vs (g + h .n)

@@ -13,7 +13,7 @@ ghost use Rattle.detect.specs.Operation.{allPlaces, written};
 ghost use Rattle.detect.specs.Emit.{operationsIn};
 ghost use Rattle.detect.specs.Records.{Held};
 ghost use Rattle.detect.specs.Kept.{Kept};
-ghost use Rattle.detect.specs.Compile.{floatsOf, marksOf, answerOf, writtenOf, reportedOf, programOf, checkedAnswer, checkedLent, checkedOps, Lent, compiled, compiledWork, compiledMarks, compiledOps};
+ghost use Rattle.detect.specs.Compile.{workFloats, workMarks, answerOf, writtenOf, reportedOf, programOf, checkedAnswer, checkedLent, checkedOps, Lent, compiled, compiledWork, compiledMarks, compiledOps};
 use crate::emit::emit_all;
 use crate::places::OP_PLACES;
 use crate::program::detect;
@@ -95,8 +95,8 @@ fn compile_checked(
 ) -> Compiled
     requires { ⌜ Gates (now tape) g (h .n) × (h .n ≤ maxQubits) × (g ≤ maxGates) ⌝ }
     ensures answer { λ r. ⌜ r ≡ checkedAnswer h (gatesOf (now (tape .entry))) g (length (now (work .entry))) (length (now (marks .entry))) (length (now (ops .entry))) ⌝ }
-    ensures work { λ _. ⌜ now (work .exit) ≡ checkedLent g (h .n) (length (now (work .entry))) (length (now (marks .entry))) floatsOf f0 (now (work .entry)) ⌝ }
-    ensures marks { λ _. ⌜ now (marks .exit) ≡ checkedLent g (h .n) (length (now (work .entry))) (length (now (marks .entry))) marksOf 0 (now (marks .entry)) ⌝ }
+    ensures work { λ _. ⌜ now (work .exit) ≡ checkedLent g (h .n) (length (now (work .entry))) (length (now (marks .entry))) workFloats f0 (now (work .entry)) ⌝ }
+    ensures marks { λ _. ⌜ now (marks .exit) ≡ checkedLent g (h .n) (length (now (work .entry))) (length (now (marks .entry))) workMarks 0 (now (marks .entry)) ⌝ }
     ensures ops { λ _. ⌜ now (ops .exit) ≡ checkedOps h (gatesOf (now (tape .entry))) g (length (now (work .entry))) (length (now (marks .entry))) (now (ops .entry)) ⌝ }
 {
     let n = h.n;

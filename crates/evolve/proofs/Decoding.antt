@@ -11,7 +11,7 @@ use Rattle.real.specs.declared.maps.Map2.{Map2}
 use Rattle.real.specs.declared.maps.Map4.{Map4}
 use Rattle.gate.specs.declared.complex.Complex.{Complex}
 use Rattle.detect.specs.Operation.{one, two, interaction, placesOf}
-use Rattle.state.specs.Operation.{interactionOf, oneOf, twoOf, decodeOf}
+use Rattle.state.specs.Operation.{interactionAt, oneOf, twoOf, decodeOf}
 use Rattle.state.specs.declared.operation.Operation.the-variants.{One, Two}
 use Rattle.state.specs.declared.operation.Decoded.the-variants.{Good}
 use Rattle.state.proofs.Operations.{mode-back}
@@ -30,6 +30,6 @@ decode-two n k q h m =
 
 -- "kind 3": its mode is not questioned
 pub decode-interaction : (n k block second : ℕ) (w : Complex)
-    → decodeOf n (placesOf (interaction k block second w)) ≡ Good (interactionOf (placesOf (interaction k block second w)))
+    → decodeOf n (placesOf (interaction k block second w)) ≡ Good (interactionAt (placesOf (interaction k block second w)))
 unfolding decodeOf placesOf ofBits eq
 decode-interaction n k block second w = refl

@@ -31,7 +31,7 @@ use Rattle.detect.specs.Operation.{Operation, one, two, interaction, placesOf}
 use Rattle.detect.specs.Emit.{orientedOf, lowerOf, rotated, rotationsOf, twoOperations, itemOperations, operationsOf}
 use Rattle.detect.specs.Counts.{gaussian, interacting, bad, apart, adjacentShare, matchShare, turnsIn, twoShare, plusOf, shareOf, countedOnto, countsOf}
 use Rattle.detect.specs.Report.{freeOf}
-use Rattle.detect.specs.Compile.{reordersOf, matchPairs, itemsOf, orderOf, modeOf, tallyOf, programOf}
+use Rattle.detect.specs.Compile.{reordersOf, matchPairs, itemsOf, orderOf, modeOfWire, tapeCounts, programOf}
 use Rattle.detect.proofs.Wires.{wires-items}
 use Rattle.state.specs.Operation.{decodeOf, Fits}
 use Rattle.state.specs.declared.operation.Decoded.the-variants.{Good}
@@ -110,15 +110,15 @@ module _ (n : ℕ) where
 -- ---- the program of a tape
 
 module _ (h : Header) (gs : List Gate) (good : (x : Gate) → List·Memᴰ x gs → GoodGate (h .n) x) where
-  mode-there : (w : ℕ) → w < h .n → modeOf h gs w < h .n
+  mode-there : (w : ℕ) → w < h .n → modeOfWire h gs w < h .n
   unfolding orderOf
   mode-there w l = order-permutes (reordersOf h) (h .n) (matchPairs (itemsOf h gs .items)) .there w l
 
   pub program-fits : AllFit (h .n) (programOf h gs)
-  unfolding programOf tallyOf
-  program-fits = by (freeOf (tallyOf h gs)) refl
+  unfolding programOf tapeCounts
+  program-fits = by (freeOf (tapeCounts h gs)) refl
     where
-      by : (t : Bool) → freeOf (tallyOf h gs) ≡ t → AllFit (h .n) (cond t (operationsOf (modeOf h gs) (itemsOf h gs .items)) [])
+      by : (t : Bool) → freeOf (tapeCounts h gs) ≡ t → AllFit (h .n) (cond t (operationsOf (modeOfWire h gs) (itemsOf h gs .items)) [])
       by true e =
-          operations-fit (h .n) (h .tolerance) (modeOf h gs) mode-there (itemsOf h gs .items) (wires-items h gs good) (eqb-true (tallyOf h gs .bad) 0 e)
+          operations-fit (h .n) (h .tolerance) (modeOfWire h gs) mode-there (itemsOf h gs .items) (wires-items h gs good) (eqb-true (tapeCounts h gs .bad) 0 e)
       by false e = tt

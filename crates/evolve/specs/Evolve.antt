@@ -7,7 +7,7 @@ use Rattle.laws.specs.Lists.{All}
 use Rattle.laws.specs.Bounds.{opPlaces}
 use Rattle.detect.specs.Operation.{Operation, one, two, interaction, placesOf}
 use Rattle.state.specs.State.{State, vacuum}
-use Rattle.state.specs.Operation.{interactionOf, decodeOf, effect, Fits}
+use Rattle.state.specs.Operation.{interactionAt, decodeOf, effect, Fits}
 use Rattle.state.specs.declared.operation.Operation as state
 use Rattle.state.specs.declared.operation.Operation.the-variants.{One, Two}
 use Rattle.state.specs.declared.operation.Decoded.{Decoded}
@@ -38,7 +38,7 @@ evolvedIn n (suc k) l t = evolvedIn n k (drop opPlaces l) (decodedEffect (decode
 abbrev pub readBack : Operation → state.Operation
 readBack (one k q) = One k q
 readBack (two k q) = Two k q
-readBack (interaction k block second w) = interactionOf (placesOf (interaction k block second w))
+readBack (interaction k block second w) = interactionAt (placesOf (interaction k block second w))
 
 -- question 17 of each operation: "the mode .. below n, for 2 its successor too"; "an interaction .. its mode unquestioned"
 abbrev pub AllFit : ℕ → List Operation → Type 0

@@ -13,7 +13,7 @@ use Rattle.tape.specs.declared.header.Header.{Header}
 use Rattle.detect.specs.declared.report.Answer.{Answer}
 use Rattle.detect.specs.Operation.{written}
 use Rattle.detect.specs.Report.{freeOf, reportOf}
-use Rattle.detect.specs.Compile.{tallyOf, reportedOf, programOf, hasWork, done}
+use Rattle.detect.specs.Compile.{tapeCounts, reportedOf, programOf, hasWork, done}
 use Rattle.state.specs.Bounds.{dimOf}
 use Rattle.state.specs.State.{stored}
 use Rattle.evolve.specs.Evolve.{evolved}
@@ -96,6 +96,6 @@ module _ (t : List ℕ) (work : List Float) (marks : List ℕ) (ops state : List
   run-accepted h c y = ap answerOf (passed-asked (length work) (length marks) (length ops) (length state) h c (parse t) y)
 
 -- no block is bad
-pub passes-free : (h : Header) (c : Content) (o s : ℕ) → Passes h (reportedOf h (c .gates)) o s → freeOf (tallyOf h (c .gates)) ≡ true
+pub passes-free : (h : Header) (c : Content) (o s : ℕ) → Passes h (reportedOf h (c .gates)) o s → freeOf (tapeCounts h (c .gates)) ≡ true
 unfolding reportedOf reportOf
-passes-free h c o s p = eq-eqb (tallyOf h (c .gates) .bad) 0 (p .free)
+passes-free h c o s p = eq-eqb (tapeCounts h (c .gates) .bad) 0 (p .free)

@@ -17,7 +17,7 @@ use Rattle.detect.specs.Operation.{allPlaces, written}
 use Rattle.detect.specs.Emit.{operationsIn}
 use Rattle.detect.specs.Report.{reportOf}
 use Rattle.detect.specs.Kept.{Kept}
-use Rattle.detect.specs.Compile.{tallyOf, reportedOf, programOf}
+use Rattle.detect.specs.Compile.{tapeCounts, reportedOf, programOf}
 use Rattle.detect.specs.Program.{Detected}
 use Rattle.detect.proofs.Placing.{length-placed}
 use Rattle.detect.proofs.Answering.{reported-free, reported-operations, emits-fit, writes}
@@ -69,7 +69,7 @@ module _ (h : Header) (c : Content) (g : ℕ) (xs ys : List Float) (us vs : List
 
     free : r .free ≡ true
     unfolding reportedOf reportOf
-    free = ap (λ r. r .free) (d .report) ∙ reported-free h (c .gates) ∙ eq-eqb (tallyOf h (c .gates) .bad) 0 (none-bad (passes .free))
+    free = ap (λ r. r .free) (d .report) ∙ reported-free h (c .gates) ∙ eq-eqb (tapeCounts h (c .gates) .bad) 0 (none-bad (passes .free))
 
     number : r .operations ≡ length (programOf h (c .gates))
     number = ap (λ r. r .operations) (d .report) ∙ reported-operations h (c .gates)

@@ -11,7 +11,7 @@ use Rattle.tape.specs.Parse.{Content, contentOf}
 use Rattle.tape.specs.declared.header.Header.{Header}
 use Rattle.detect.specs.declared.report.Compiled.{Compiled}
 use Rattle.detect.specs.Report.{reportOf}
-use Rattle.detect.specs.Compile.{tallyOf, reportedOf}
+use Rattle.detect.specs.Compile.{tapeCounts, reportedOf}
 use Rattle.detect.proofs.Reports.{operations-told}
 use Rattle.register.specs.Register.{registerBits}
 use Rattle.claim.specs.Queries.{answers, RightAnswers}
@@ -23,13 +23,13 @@ use Rattle.gaussian.proofs.Verdicts.{Passes}
 use Rattle.gaussian.proofs.Accepted.{run-says, run-accepted, passes-free}
 
 -- the questions 10 to 15 of a tape without bad blocks and interactions, where slices and limit suffice
-suffice-passes : (h : Header) (c : Content) (w u o s : ℕ) → tallyOf h (c .gates) .bad ≡ 0 → tallyOf h (c .gates) .interactions ≡ 0
+suffice-passes : (h : Header) (c : Content) (w u o s : ℕ) → tapeCounts h (c .gates) .bad ≡ 0 → tapeCounts h (c .gates) .interactions ≡ 0
     → Suffice h (c .gates) w u o s → Passes h (reportedOf h (c .gates)) o s
 unfolding reportedOf reportOf interacts
 suffice-passes h c w u o s bad none f = record {
   operations = subst (λ (k : ℕ). opPlaces * k ≤ o) (sym (operations-told h (c .gates))) (f .ten);
   free = bad;
-  interactions = rw (eq-eqb (tallyOf h (c .gates) .interactions) 0 none);
+  interactions = rw (eq-eqb (tapeCounts h (c .gates) .interactions) 0 none);
   limit = f .fourteen;
   state = f .fifteen;
 }

@@ -32,7 +32,7 @@ use Rattle.order.specs.declared.choice.Ordering.{Ordering}
 use Rattle.detect.specs.declared.report.Report.{Report}
 use Rattle.detect.specs.declared.report.Compiled.{Compiled}
 use Rattle.detect.specs.Report.{reportOf}
-use Rattle.detect.specs.Compile.{labelsOf, itemsOf, orderOf, tallyOf, reportedOf}
+use Rattle.detect.specs.Compile.{labelsOf, itemsOf, orderOf, tapeCounts, reportedOf}
 use Rattle.detect.proofs.Reports.{blocks-add, blocks-items, no-blocks as fraction-one}
 use Rattle.detect.proofs.Edges.{Reporting, edges}
 use Rattle.state.specs.Answers as Answers
@@ -152,7 +152,7 @@ kept h r e d = rw (e, d)
 
 -- the report does not see the limit
 limit-unseen : (n flags k l : ℕ) (gs : List Gate) → reportedOf (headed n flags k) gs ≡ reportedOf (headed n flags l) gs
-unfolding reportedOf tallyOf itemsOf labelsOf orderOf
+unfolding reportedOf tapeCounts itemsOf labelsOf orderOf
 limit-unseen n flags k l gs = refl
 
 counted : {t : List ℕ} {k : ℕ} {g : Gate} (n flags limit : ℕ) → parse t ≡ accepted (headed n flags limit) (only g) → n ≤ 3

@@ -18,7 +18,7 @@ use Rattle.detect.specs.declared.report.Report.{Report}
 use Rattle.detect.specs.declared.report.Answer.{Answer}
 use Rattle.detect.specs.declared.report.Compiled.{Compiled}
 use Rattle.detect.specs.Report.{freeOf, reportOf}
-use Rattle.detect.specs.Compile.{itemsOf, modeOf, tallyOf, reportedOf, floatsOf, marksOf, hasWork, refusal, done}
+use Rattle.detect.specs.Compile.{itemsOf, modeOfWire, tapeCounts, reportedOf, workFloats, workMarks, hasWork, refusal, done}
 use Rattle.detect.proofs.Sums.{counts-add}
 use Rattle.state.specs.Bounds.{dimOf, statePlaces}
 use Rattle.gaussian.specs.Run.{allApart, interacts, bytesOf, verdictOf, judged, askedOf, answerOf, ran}
@@ -66,18 +66,18 @@ pub record Row (t : List ℕ) (k : ℕ) (report : Report) : Type 0 where
 
 -- slices that suffice: work of one gate and three qubits, three operations, the state of three qubits
 pub record Roomy (work : List Float) (marks : List ℕ) (ops state : List Float) : Type 0 where
-  pub floats : floatsOf 1 3 ≤ length work
-  pub numbers : marksOf 1 3 ≤ length marks
+  pub floats : workFloats 1 3 ≤ length work
+  pub numbers : workMarks 1 3 ≤ length marks
   pub operations : opPlaces * 3 ≤ length ops
   pub places : statePlaces (dimOf 3) ≤ length state
 
 -- a block becomes three operations at most
 operations-few : (h : Header) (gs : List Gate) → reportedOf h gs .operations ≤ 3 * reportedOf h gs .blocks
-unfolding reportedOf reportOf tallyOf
-operations-few h gs = by (freeOf (tallyOf h gs))
+unfolding reportedOf reportOf tapeCounts
+operations-few h gs = by (freeOf (tapeCounts h gs))
   where
-    by : (b : Bool) → cond b (tallyOf h gs .operations) 0 ≤ 3 * tallyOf h gs .blocks
-    by true = let a = counts-add (h .tolerance) (modeOf h gs) (itemsOf h gs .items) in omega (arith, a .operations, a .items)
+    by : (b : Bool) → cond b (tapeCounts h gs .operations) 0 ≤ 3 * tapeCounts h gs .blocks
+    by true = let a = counts-add (h .tolerance) (modeOfWire h gs) (itemsOf h gs .items) in omega (arith, a .operations, a .items)
     by false = omega arith
 
 places-few : (n : ℕ) → n ≤ 3 → statePlaces (dimOf n) ≤ statePlaces (dimOf 3)
@@ -98,8 +98,8 @@ module _ {t : List ℕ} {k : ℕ} {r : Report} (x : Row t k r) (work : List Floa
   nine : hasWork (length (x .content .gates)) (x .header .n) (length work) (length marks) ≡ true
   nine =
       rw (
-        le-ltb (length work) (floatsOf (length (x .content .gates)) (x .header .n)) (omega (arith, roomy .floats, x .gates, x .qubits)),
-        le-ltb (length marks) (marksOf (length (x .content .gates)) (x .header .n)) (omega (arith, roomy .numbers, x .gates, x .qubits)),
+        le-ltb (length work) (workFloats (length (x .content .gates)) (x .header .n)) (omega (arith, roomy .floats, x .gates, x .qubits)),
+        le-ltb (length marks) (workMarks (length (x .content .gates)) (x .header .n)) (omega (arith, roomy .numbers, x .gates, x .qubits)),
       )
 
   ten : opPlaces * r .operations ≤ length ops

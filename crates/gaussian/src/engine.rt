@@ -7,7 +7,7 @@ ghost use Rattle.laws.specs.Bounds.{maxQubits};
 ghost use Rattle.gate.specs.Complex.{f0};
 ghost use Rattle.tape.specs.Bounds.{maxGates};
 ghost use Rattle.fuse.specs.Slotted.{Gates};
-ghost use Rattle.detect.specs.Compile.{floatsOf, marksOf, checkedLent, Lent};
+ghost use Rattle.detect.specs.Compile.{workFloats, workMarks, checkedLent, Lent};
 ghost use Rattle.gaussian.specs.Run.{answerOf, opsAfter, stateAfter, reportAsked, workAsked};
 ghost use Rattle.gaussian.specs.Run.{ran, ranWork, ranMarks, ranOps, ranState};
 ghost use Rattle.gaussian.specs.Claim.{RegisterClaim};
@@ -71,8 +71,8 @@ fn run_checked(
 ) -> Compiled
     requires { ⌜ Gates (now tape) g (h .n) × (h .n ≤ maxQubits) × (g ≤ maxGates) ⌝ }
     ensures answer { λ r. ⌜ r ≡ answerOf (workAsked (now (tape .entry)) h g (now (work .entry)) (now (marks .entry)) (now (ops .entry)) (now (state .entry))) ⌝ }
-    ensures work { λ _. ⌜ now (work .exit) ≡ checkedLent g (h .n) (length (now (work .entry))) (length (now (marks .entry))) floatsOf f0 (now (work .entry)) ⌝ }
-    ensures marks { λ _. ⌜ now (marks .exit) ≡ checkedLent g (h .n) (length (now (work .entry))) (length (now (marks .entry))) marksOf 0 (now (marks .entry)) ⌝ }
+    ensures work { λ _. ⌜ now (work .exit) ≡ checkedLent g (h .n) (length (now (work .entry))) (length (now (marks .entry))) workFloats f0 (now (work .entry)) ⌝ }
+    ensures marks { λ _. ⌜ now (marks .exit) ≡ checkedLent g (h .n) (length (now (work .entry))) (length (now (marks .entry))) workMarks 0 (now (marks .entry)) ⌝ }
     ensures ops { λ _. ⌜ now (ops .exit) ≡ opsAfter (workAsked (now (tape .entry)) h g (now (work .entry)) (now (marks .entry)) (now (ops .entry)) (now (state .entry))) (now (ops .entry)) ⌝ }
     ensures state { λ _. ⌜ now (state .exit) ≡ stateAfter (workAsked (now (tape .entry)) h g (now (work .entry)) (now (marks .entry)) (now (ops .entry)) (now (state .entry))) (now (state .entry)) ⌝ }
 {

@@ -9,7 +9,7 @@ use Rattle.gate.specs.Matrix.{mul2Of, kronOf, mul4Of, dag4Of, mat4SwapQubitsOf}
 use Rattle.gate.specs.declared.matrix.Mat2.{Mat2}
 use Rattle.gate.specs.declared.matrix.Mat4.{Mat4}
 use Rattle.monomial.specs.Groups.{Two, two, Four, four, Mat2Of, Mat4Of}
-use Rattle.monomial.specs.Monomial.{IsEntry, flip, Mono2, Mono4, entries2, entries4, entriesOf, Has2, Has4, bitA, bitB, wOf, fitting, Fits}
+use Rattle.monomial.specs.Monomial.{IsEntry, flip, Mono2, Mono4, entries2, entries4, entriesOf, Has2, Has4, bitA, bitB, wOf, matchgatePhase, IsMatchgate}
 use Rattle.monomial.specs.Algebra.{times2, columns, plus4, times4, kron4, renamed, adjoint, Even}
 use Rattle.monomial.proofs.Tests.{everyBit, at-bit, everyPhase, eqPhase, eqPhase→}
 use Rattle.monomial.proofs.Phases.{all-four, interchange, minus-sum, cancels}
@@ -192,7 +192,7 @@ abbrev KeepsEven : (Bool → Bool → Bool → Four Phase → Four Phase) → Ty
 KeepsEven F = T (everyBit (λ s. everyBit (λ f. everyBit (λ g. allPhases F s f g))))
 
 even-stays : (F : Bool → Bool → Bool → Four Phase → Four Phase) → KeepsEven F → (s f g t : Bool) (p : Four Phase)
-    → wOf p ≡ fitting t → wOf (F s f g p) ≡ fitting t
+    → wOf p ≡ matchgatePhase t → wOf (F s f g p) ≡ matchgatePhase t
 even-stays F h s f g t (four k l m n) e =
     eqPhase→ (wOf (F s f g (four k l m n))) (wOf (four k l m n))
     (subst (λ (b : Bool). T (b || eqPhase (wOf (F s f g (four k l m n))) (wOf (four k l m n)))) (even t (wOf (four k l m n)) e)
@@ -202,7 +202,7 @@ even-stays F h s f g t (four k l m n) e =
     k l m n))
     ∙ e
   where
-    even : (t : Bool) (w : Phase) → w ≡ fitting t → isOdd w ≡ false
+    even : (t : Bool) (w : Phase) → w ≡ matchgatePhase t → isOdd w ≡ false
     even false w e = ap isOdd e
     even true w e = ap isOdd e
 
@@ -215,7 +215,7 @@ adjoint-phases = tt
 renamed-phases : KeepsEven (λ s f g p. renamed (mono4 s f g p) .phases)
 renamed-phases = tt
 
-fitting-plus : (t t′ : Bool) → fitting t ⊕ fitting t′ ≡ fitting (flip t t′)
+fitting-plus : (t t′ : Bool) → matchgatePhase t ⊕ matchgatePhase t′ ≡ matchgatePhase (flip t t′)
 fitting-plus false t′ = refl
 fitting-plus true false = refl
 fitting-plus true true = refl
@@ -241,14 +241,14 @@ renamed-even t b = even-stays (λ s f g p. renamed (mono4 s f g p) .phases) rena
 
 -- ---- blocks that fit
 
-pub times-fits : (b c : Mono4) → Fits b → Fits c → Fits (times4 b c)
+pub times-fits : (b c : Mono4) → IsMatchgate b → IsMatchgate c → IsMatchgate (times4 b c)
 times-fits b c = times-even (b .swap) (c .swap) b c
 
-pub kron-fits : (b c : Mono2) → Fits (kron4 b c)
+pub kron-fits : (b c : Mono2) → IsMatchgate (kron4 b c)
 kron-fits b c = kron-even b c
 
-pub adjoint-fits : (b : Mono4) → Fits b → Fits (adjoint b)
+pub adjoint-fits : (b : Mono4) → IsMatchgate b → IsMatchgate (adjoint b)
 adjoint-fits b = adjoint-even (b .swap) b
 
-pub renamed-fits : (b : Mono4) → Fits b → Fits (renamed b)
+pub renamed-fits : (b : Mono4) → IsMatchgate b → IsMatchgate (renamed b)
 renamed-fits b = renamed-even (b .swap) b

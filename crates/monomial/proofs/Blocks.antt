@@ -8,7 +8,7 @@ use lib.Dec.{T, ltb, ltb→lt}
 use lib.Ieee.Fits.{and-l, and-r}
 use Rattle.laws.specs.Phase.{Phase, i0, i1, i2, i3, isOdd}
 use Rattle.monomial.specs.Groups.{Four, four}
-use Rattle.monomial.specs.Monomial.{Entry, none, any, unit, flip, entries4, wOf, fitting}
+use Rattle.monomial.specs.Monomial.{Entry, none, any, unit, flip, entries4, wOf, matchgatePhase}
 use Rattle.monomial.specs.Basis.{basis, bits, Signed, unitAt}
 use Rattle.monomial.proofs.Tests.{everyBit, everyPhase, at-phase, both-pairs, eqPhase, eqPhase→}
 use Rattle.monomial.proofs.Permutations.{distinct, carries}
@@ -154,12 +154,12 @@ all-blocks s f g (four k l m n) =
     by true true false = swapped-a
     by true true true = swapped-both
 
-pub fits-all : (s f g : Bool) (k : Four Phase) → wOf k ≡ fitting s → T (fitsTest s f g k)
+pub fits-all : (s f g : Bool) (k : Four Phase) → wOf k ≡ matchgatePhase s → T (fitsTest s f g k)
 unfolding verdict
 fits-all false f g k e = subst (λ (w : Phase). T (verdict w false f g k)) e (all-blocks false f g k)
 fits-all true f g k e = subst (λ (w : Phase). T (verdict w true f g k)) e (all-blocks true f g k)
 
-pub fails-all : (s f g : Bool) (k : Four Phase) → wOf k ≡ fitting (not s) → T (failsTest s f g k)
+pub fails-all : (s f g : Bool) (k : Four Phase) → wOf k ≡ matchgatePhase (not s) → T (failsTest s f g k)
 unfolding verdict
 fails-all false f g k e = subst (λ (w : Phase). T (verdict w false f g k)) e (all-blocks false f g k)
 fails-all true f g k e = subst (λ (w : Phase). T (verdict w true f g k)) e (all-blocks true f g k)

@@ -13,7 +13,7 @@ use Rattle.majorana.specs.declared.classify.Kind2.the-variants.{Diag, Interacti
 use Rattle.majorana.specs.Diagonal.{interactionOf, phaseNoneOf}
 use Rattle.majorana.specs.Classify.{diagonalOf, withoutPhaseOf, residual2Of, swap4Of, class2, plainOf, fallbackOf, swappedOf, classify2Of}
 use Rattle.monomial.specs.Groups.{Four, four, Mat4Of}
-use Rattle.monomial.specs.Monomial.{IsEntry, unit, flip, Mono4, entries4, Has4, bitA, bitB, wOf, fitting, Fits, Unfit}
+use Rattle.monomial.specs.Monomial.{IsEntry, unit, flip, Mono4, entries4, Has4, bitA, bitB, wOf, matchgatePhase, IsMatchgate, SwappedMatchgate}
 use Rattle.monomial.specs.Algebra.{times4, Even, monoSwap}
 use Rattle.monomial.specs.Tolerance.{Tolerance}
 use Rattle.monomial.proofs.Complexes.{zero-is}
@@ -52,13 +52,13 @@ swapped-bitB b x y = by (b .swap)
 pub swapped-even : (t : Bool) (b : Mono4) → Even t b → Even t (swapped b)
 swapped-even t b h = times-even false t monoSwap b refl h
 
-pub swapped-fits : (b : Mono4) → Unfit b → Fits (swapped b)
+pub swapped-fits : (b : Mono4) → SwappedMatchgate b → IsMatchgate (swapped b)
 swapped-fits b h = swapped-even (not (b .swap)) b h
 
 -- ---- the tests
 
 -- of a diagonal block only: its phase counts as none where w = 1
-without : (tol : Float) → Tolerance tol → (u : Mat4) (s f g t : Bool) (p : Four Phase) → Mat4Of IsEntry u (entries4 s f g p) → wOf p ≡ fitting t
+without : (tol : Float) → Tolerance tol → (u : Mat4) (s f g t : Bool) (p : Four Phase) → Mat4Of IsEntry u (entries4 s f g p) → wOf p ≡ matchgatePhase t
     → ((not s && (not f && not g)) && phaseNoneOf tol (interactionOf u)) ≡ ((not s && (not f && not g)) && not t)
 without tol ok u true f g t p h e = refl
 without tol ok u false true g t p h e = refl
@@ -76,7 +76,7 @@ module _ (tol : Float) (ok : Tolerance tol) (u : Mat4) (b : Mono4) (U : Has4 u b
       ∙ without tol ok u (b .swap) (b .turnA) (b .turnB) t (b .phases) U e
 
   -- where it fits, w = 1 if it is diagonal
-  without-fits : Fits b → withoutPhaseOf tol (diagonalOf tol u) u ≡ diagonal b
+  without-fits : IsMatchgate b → withoutPhaseOf tol (diagonalOf tol u) u ≡ diagonal b
   without-fits F = without-is (b .swap) F ∙ by (b .swap) (not (b .turnA) && not (b .turnB))
     where
       by : (s r : Bool) → ((not s && r) && not s) ≡ (not s && r)
@@ -84,7 +84,7 @@ module _ (tol : Float) (ok : Tolerance tol) (u : Mat4) (b : Mono4) (U : Has4 u b
       by false true = refl
       by true r = refl
 
-  without-unfit : Unfit b → withoutPhaseOf tol (diagonalOf tol u) u ≡ false
+  without-unfit : SwappedMatchgate b → withoutPhaseOf tol (diagonalOf tol u) u ≡ false
   without-unfit F = without-is (not (b .swap)) F ∙ by (b .swap) (not (b .turnA) && not (b .turnB))
     where
       by : (s r : Bool) → ((not s && r) && not (not s)) ≡ false
@@ -92,18 +92,18 @@ module _ (tol : Float) (ok : Tolerance tol) (u : Mat4) (b : Mono4) (U : Has4 u b
       by false true = refl
       by true r = refl
 
-  residual-is-0 : Fits b → residual2Of u ≡ f0
+  residual-is-0 : IsMatchgate b → residual2Of u ≡ f0
   unfolding residual2Of
   residual-is-0 F = residual-fits u b U F
 
-  residual-is-1 : Unfit b → residual2Of u ≡ f1
+  residual-is-1 : SwappedMatchgate b → residual2Of u ≡ f1
   unfolding residual2Of
   residual-is-1 F = residual-unfit u b U F
 
-  match-fits : Fits b → le (residual2Of u) tol ≡ true
+  match-fits : IsMatchgate b → le (residual2Of u) tol ≡ true
   match-fits F = ap (λ (r : Float). le r tol) (residual-is-0 F) ∙ zero-passes f0 tol ok zero-is
 
-  match-unfit : Unfit b → le (residual2Of u) tol ≡ false
+  match-unfit : SwappedMatchgate b → le (residual2Of u) tol ≡ false
   match-unfit F = ap (λ (r : Float). le r tol) (residual-is-1 F) ∙ one-fails tol ok
 
 -- in the second case d is false
@@ -115,7 +115,7 @@ second-case true x y = refl
 
 module _ (tol : Float) (ok : Tolerance tol) (u : Mat4) (b : Mono4) (U : Has4 u b) where
   -- a block that fits, with or without relabelling
-  pub classify-fits : (relabel : Bool) → Fits b
+  pub classify-fits : (relabel : Bool) → IsMatchgate b
       → classify2Of relabel tol u ≡ cond (diagonal b) (class2 Diag false u true) (class2 (Match f0) false u false)
   unfolding classify2Of
   classify-fits relabel F =
@@ -125,7 +125,7 @@ module _ (tol : Float) (ok : Tolerance tol) (u : Mat4) (b : Mono4) (U : Has4 u b
       ∙ second-case (diagonal b) (class2 Diag false u true) (λ d. class2 (Match f0) false u d)
 
   -- a block that does not fit, without relabelling
-  pub classify-unfit : Unfit b
+  pub classify-unfit : SwappedMatchgate b
       → classify2Of false tol u ≡ cond (diagonal b) (class2 Interaction false u true) (class2 (NonGaussian f1) false u false)
   unfolding classify2Of plainOf
   classify-unfit F =
@@ -134,7 +134,7 @@ module _ (tol : Float) (ok : Tolerance tol) (u : Mat4) (b : Mono4) (U : Has4 u b
       (cond (diagonal-is u b U tol ok i) (class2 Interaction false u true) (class2 (NonGaussian (residual-is-1 tol ok u b U F i)) false u false)))
 
   -- v = SWAP · u, which fits
-  swapped-class : Unfit b
+  swapped-class : SwappedMatchgate b
       → swappedOf tol (diagonalOf tol u) (residual2Of u) u (swap4Of u)
       ≡ cond (diagonal (swapped b)) (class2 Diag true (swap4Of u) true) (class2 (Match f0) true (swap4Of u) (diagonal b || false))
   unfolding swappedOf
@@ -150,7 +150,7 @@ module _ (tol : Float) (ok : Tolerance tol) (u : Mat4) (b : Mono4) (U : Has4 u b
       ∙ second-case (diagonal c) (class2 Diag true v true) (λ d. class2 (Match f0) true v (diagonal b || d))
 
   -- a block that does not fit, with relabelling
-  pub classify-swapped : Unfit b
+  pub classify-swapped : SwappedMatchgate b
       → classify2Of true tol u
       ≡ cond (diagonal (swapped b)) (class2 Diag true (swap4Of u) true) (class2 (Match f0) true (swap4Of u) (diagonal b))
   unfolding classify2Of

@@ -16,7 +16,7 @@ use Rattle.gate.specs.Complex.{f0, f1}
 use Rattle.gate.specs.declared.matrix.Mat4.{Mat4}
 use Rattle.majorana.specs.Majorana.{f4, majorana0, majorana1, majorana2, majorana3, image4Of, coefficients4Of, square4Of, rest4Of, distance4Of, mapRow4Of, mapDistance4Of, majoranaMap2Of}
 use Rattle.monomial.specs.Groups.{Four, Mat4Of}
-use Rattle.monomial.specs.Monomial.{Entry, IsEntry, Mono4, entriesOf, Has4, bitA, bitB, Fits, Unfit}
+use Rattle.monomial.specs.Monomial.{Entry, IsEntry, Mono4, entriesOf, Has4, bitA, bitB, IsMatchgate, SwappedMatchgate}
 use Rattle.monomial.specs.Basis.{basis, bits, Block, Signed, rowZ, Permutes, permuted}
 use Rattle.monomial.proofs.Tests.{everyBit, at-bit, at-each}
 use Rattle.monomial.proofs.Operators.{operator, image4, image4-law, has-majorana0, has-majorana1, has-majorana2, has-majorana3}
@@ -64,7 +64,7 @@ permOf b = nth (readOf b)
 abbrev movesAll : Mono4 → Bool
 movesAll b = everyBit (λ x. everyBit (λ y. moves (b .swap) (b .turnA) (b .turnB) (nth (readOf b)) x y))
 
-module _ (b : Mono4) (F : Fits b) where
+module _ (b : Mono4) (F : IsMatchgate b) where
   passed : T ((areOperators false (imagesOf b) (readOf b) && distinct 4 (nth (readOf b))) && movesAll b)
   passed = fits-all (b .swap) (b .turnA) (b .turnB) (b .phases) F
 
@@ -91,7 +91,7 @@ module _ (b : Mono4) (F : Fits b) where
 
 module _ (u : Mat4) (b : Mono4) (U : Has4 u b) where
   -- "the residual is exactly 0"
-  pub residual-fits : Fits b → majoranaMap2Of u .residual ≡ f0
+  pub residual-fits : IsMatchgate b → majoranaMap2Of u .residual ≡ f0
   unfolding majoranaMap2Of
   residual-fits F =
       let t = each-operator false (imagesOf b) (readOf b) (operators b F) in
@@ -102,7 +102,7 @@ module _ (u : Mat4) (b : Mono4) (U : Has4 u b) where
       largest-zero _ (d0, (d1, (d2, (d3, tt))))
 
   -- "residual exactly 1.0"
-  pub residual-unfit : Unfit b → majoranaMap2Of u .residual ≡ f1
+  pub residual-unfit : SwappedMatchgate b → majoranaMap2Of u .residual ≡ f1
   unfolding majoranaMap2Of
   residual-unfit F =
       let t = each-operator true (imagesOf b) (readOf b) (fails-all (b .swap) (b .turnA) (b .turnB) (b .phases) F) in
@@ -113,7 +113,7 @@ module _ (u : Mat4) (b : Mono4) (U : Has4 u b) where
       largest-one _ _ d0 (d1, (d2, (d3, tt)))
 
   -- "its map is a signed permutation"
-  pub permutation : Fits b → Permutes 4 (permOf b) (entry4 (majoranaMap2Of u .q))
+  pub permutation : IsMatchgate b → Permutes 4 (permOf b) (entry4 (majoranaMap2Of u .q))
   unfolding majoranaMap2Of permOf
   permutation F =
       let t = each-operator false (imagesOf b) (readOf b) (operators b F) in
@@ -140,7 +140,7 @@ module _ (u : Mat4) (b : Mono4) (U : Has4 u b) where
   mapAt s = local4 s (majoranaMap2Of u .q)
 
   -- the covariance of the bits x y becomes that of the bits after
-  pub moves-basis : Fits b → (s : ℕ) (m : Mat) (x y : Bool) → Block s 4 (basis (bits x y)) m
+  pub moves-basis : IsMatchgate b → (s : ℕ) (m : Mat) (x y : Bool) → Block s 4 (basis (bits x y)) m
       → Block s 4 (basis (bits (bitA b x y) (bitB b x y))) (cols (mapAt s) (rows (mapAt s) m))
   moves-basis F s m x y M i j h k =
       subst (λ (z : ℤ). Dy 0 z (cols (mapAt s) (rows (mapAt s) m) (s + i) (s + j))) (perm-moves b F x y i j h k)

@@ -23,7 +23,7 @@ use Rattle.gate.specs.declared.matrix.Mat2.{Mat2}
 use Rattle.gate.specs.declared.matrix.Mat4.{Mat4}
 use Rattle.majorana.specs.Majorana.{majoranaMap1Of, majoranaMap2Of}
 use Rattle.majorana.specs.Diagonal.{unitOf, rotationMapOf}
-use Rattle.monomial.specs.Monomial.{unit, IsEntry, flip, Mono2, Mono4, Has2, Has4, bitA, bitB, Fits}
+use Rattle.monomial.specs.Monomial.{unit, IsEntry, flip, Mono2, Mono4, Has2, Has4, bitA, bitB, IsMatchgate}
 use Rattle.monomial.specs.Basis.{basis, bits, Block, IsBasis, Signed, signed, Permutes, permuted}
 use Rattle.monomial.proofs.Fitting.{permOf, perm-moves, permutation}
 use Rattle.monomial.proofs.Single.{permOf2, perm-moves2, permutation2}
@@ -179,7 +179,7 @@ carried w p inside b c b′ c′ e e′ f i j h g =
 
 module _ (k dim : ℕ) (b b′ : ℕ → Bool) (m : Mat) (M : IsBasis dim b m) where
   -- a two-qubit block that fits, on the modes k and k + 1
-  pub fits-state : (u : Mat4) (a : Mono4) (U : Has4 u a) → Fits a → 2 * k + 4 ≤ dim
+  pub fits-state : (u : Mat4) (a : Mono4) (U : Has4 u a) → IsMatchgate a → 2 * k + 4 ≤ dim
       → b′ k ≡ bitA a (b k) (b (k + 1)) → b′ (k + 1) ≡ bitB a (b k) (b (k + 1)) → ((n : ℕ) → (n < k) ⊎ (k + 2 ≤ n) → b n ≡ b′ n)
       → IsBasis dim b′ (cols (modesAt k 2 (entry4 (majoranaMap2Of u .q))) (rows (modesAt k 2 (entry4 (majoranaMap2Of u .q))) m))
   fits-state u a U F room eA eB others =

@@ -7,7 +7,7 @@ use Prim.Native.Nat.{ℕ}
 use lib.ListN.{getD}
 use Rattle.laws.specs.Phase.{Phase, i0, i1, i2, i3, _⊕_, minus}
 use Rattle.monomial.specs.Groups.{Two, two, Four, four}
-use Rattle.monomial.specs.Monomial.{flip, Mono2, Mono4, wOf, fitting}
+use Rattle.monomial.specs.Monomial.{flip, Mono2, Mono4, wOf, matchgatePhase}
 
 -- ---- one qubit
 
@@ -90,7 +90,7 @@ adjoint b = record {
 
 -- w is 1, or -1 where t is set: the sum of the phases is even. A block fits where t is its swap flag
 abbrev pub Even : Bool → Mono4 → Type 0
-Even t b = wOf (b .phases) ≡ fitting t
+Even t b = wOf (b .phases) ≡ matchgatePhase t
 
 -- ---- the named gates of a register tape
 

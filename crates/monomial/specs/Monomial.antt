@@ -97,13 +97,13 @@ abbrev pub wOf : Four Phase → Phase
 wOf (four k l m n) = (k ⊕ n) ⊕ minus (l ⊕ m)
 
 -- the w of a matchgate: 1 without the exchange, -1 with it
-abbrev pub fitting : Bool → Phase
-fitting false = i0
-fitting true = i2
+abbrev pub matchgatePhase : Bool → Phase
+matchgatePhase false = i0
+matchgatePhase true = i2
 
--- b is a matchgate, or it is one after an exchange. An even sum of phases, that is w = 1 or w = -1, means one of the two
-abbrev pub Fits : Mono4 → Type 0
-Fits b = wOf (b .phases) ≡ fitting (b .swap)
+-- b is a matchgate; or it is one after an exchange. An even sum of phases, that is w = 1 or w = -1, means one of the two
+abbrev pub IsMatchgate : Mono4 → Type 0
+IsMatchgate b = wOf (b .phases) ≡ matchgatePhase (b .swap)
 
-abbrev pub Unfit : Mono4 → Type 0
-Unfit b = wOf (b .phases) ≡ fitting (not (b .swap))
+abbrev pub SwappedMatchgate : Mono4 → Type 0
+SwappedMatchgate b = wOf (b .phases) ≡ matchgatePhase (not (b .swap))

@@ -17,7 +17,7 @@ use Rattle.laws.proofs.Cases.{eq-or-ne}
 use Rattle.work.specs.Columns.{matchItem}
 use Rattle.order.specs.declared.edges.Edge.{Edge}
 use Rattle.order.specs.Weights.{Pair, pairOf, edge, joinsOf, heavierOf, addOf, tallyOf}
-use Rattle.order.specs.Pairs.{Item, pairsOf}
+use Rattle.order.specs.Pairs.{ItemRow, pairsOf}
 use Rattle.order.specs.Slice.{countItemOf}
 
 -- ---- one pair more
@@ -62,7 +62,7 @@ added-new p E F m u f s =
 
 -- ---- an item counted
 
-pub counted-cons : (t : Item) (ts : List Item) → tallyOf (pairsOf (t ∷ ts)) ≡ countItemOf t (tallyOf (pairsOf ts))
+pub counted-cons : (t : ItemRow) (ts : List ItemRow) → tallyOf (pairsOf (t ∷ ts)) ≡ countItemOf t (tallyOf (pairsOf ts))
 unfolding pairsOf tallyOf
 counted-cons t ts = go (eqb (t .kind) matchItem)
   where
@@ -90,14 +90,14 @@ add-light p k (e ∷ es) h = go (joinsOf p e) (add-light p k es (h .1)) (lighter
     go true i l = (omega (arith, h .0), l)
     go false i l = (omega (arith, h .0), i)
 
-count-light : (t : Item) (k : ℕ) (es : List Edge) → All (AtMost k) es → All (AtMost (k + 1)) (countItemOf t es)
+count-light : (t : ItemRow) (k : ℕ) (es : List Edge) → All (AtMost k) es → All (AtMost (k + 1)) (countItemOf t es)
 count-light t k es h = go (eqb (t .kind) matchItem)
   where
     go : (b : Bool) → All (AtMost (k + 1)) (cond b (addOf (pairOf (t .a) (t .b)) es) es)
     go true = add-light (pairOf (t .a) (t .b)) k es h
     go false = lighter k es h
 
-pub edges-light : (T : ℕ → Item) (k n : ℕ) → All (AtMost n) (tallyOf (pairsOf (upFrom T k n)))
+pub edges-light : (T : ℕ → ItemRow) (k n : ℕ) → All (AtMost n) (tallyOf (pairsOf (upFrom T k n)))
 unfolding upFrom pairsOf tallyOf
 edges-light T k zero = tt
 edges-light T k (suc n) =

@@ -14,9 +14,9 @@ use Rattle.work.specs.Marks.{Only, Records}
 use Rattle.work.specs.Columns.{matchItem}
 use Rattle.work.proofs.Records.{only-same, only-trans}
 use Rattle.order.specs.Weights.{Pair, pairOf, addOf, tallyOf}
-use Rattle.order.specs.Pairs.{Item, itemAt, pairsOf, WiresBelow}
+use Rattle.order.specs.Pairs.{ItemRow, itemRow, pairsOf, WiresBelow}
 use Rattle.order.specs.Slice.{limit, edgeAt, edgesIn, Light}
-use Rattle.order.specs.Slice.{tallyColumns, joinsAt, Chained, Unchained, putHeavier, putNew, ItemBelow, Added, countItemOf, Counted, Tallied}
+use Rattle.order.specs.Slice.{tallyColumns, joinsAt, Chained, Unchained, putHeavier, putNew, MatchBelow, Added, countItemOf, Counted, Tallied}
 use Rattle.order.proofs.Triples.{only-columns}
 use Rattle.order.proofs.Counting.{added-hit, added-new, AtMost, edges-light}
 use Rattle.order.proofs.Chains.{grown-here, grown-away, grown-tally, grown-chained, new-here, new-away, new-tally, new-chained}
@@ -61,33 +61,33 @@ pair-turned a b x y p q h = rw (← p, ← q, lt-ltb b a h)
 pub pair-straight : (a b x y : ℕ) → a ≡ x → b ≡ y → a ≤ b → record { lo = a; hi = b } ≡ pairOf x y
 pair-straight a b x y p q h = rw (← p, ← q, le-ltb b a h)
 
-pub count-skips : (us : List ℕ) (m n i k : ℕ) → Chained us m n → k ≡ itemAt us i .kind → k ≢ matchItem → Counted us us m n i m
+pub count-skips : (us : List ℕ) (m n i k : ℕ) → Chained us m n → k ≡ itemRow us i .kind → k ≢ matchItem → Counted us us m n i m
 count-skips us m n i k c e ne = record {
-  list = rw (ne-eqb (itemAt us i .kind) matchItem (λ q. ne (e ∙ q)));
+  list = rw (ne-eqb (itemRow us i .kind) matchItem (λ q. ne (e ∙ q)));
   more = (omega arith, omega arith);
   chain = c;
   only = only-same tallyColumns us;
 }
 
-pub count-adds : (us vs : List ℕ) (m n i r k : ℕ) (p : Pair) → k ≡ itemAt us i .kind → k ≡ matchItem → p ≡ pairOf (itemAt us i .a) (itemAt us i .b)
+pub count-adds : (us vs : List ℕ) (m n i r k : ℕ) (p : Pair) → k ≡ itemRow us i .kind → k ≡ matchItem → p ≡ pairOf (itemRow us i .a) (itemRow us i .b)
     → Added us vs m n p r → Counted us vs m n i r
 count-adds us vs m n i r k p e is q a = record {
-  list = rw (eq-eqb (itemAt us i .kind) matchItem (sym e ∙ is)) (a .list ∙ ap (λ (p : Pair). addOf p (edgesIn us m)) q);
+  list = rw (eq-eqb (itemRow us i .kind) matchItem (sym e ∙ is)) (a .list ∙ ap (λ (p : Pair). addOf p (edgesIn us m)) q);
   more = a .more;
   chain = a .chain;
   only = a .only;
 }
 
-pub items-stay : (us vs : List ℕ) → Only tallyColumns us vs → (i : ℕ) → itemAt vs i ≡ itemAt us i
+pub items-stay : (us vs : List ℕ) → Only tallyColumns us vs → (i : ℕ) → itemRow vs i ≡ itemRow us i
 items-stay us vs o i = item-of (o .same i 0 (omega arith) refl) (o .same i 1 (omega arith) refl) (o .same i 2 (omega arith) refl)
   where
-    item-of : {k a b l c d : ℕ} → k ≡ l → a ≡ c → b ≡ d → _≡_ {A = Item} (record { kind = k; a = a; b = b }) (record { kind = l; a = c; b = d })
+    item-of : {k a b l c d : ℕ} → k ≡ l → a ≡ c → b ≡ d → _≡_ {A = ItemRow} (record { kind = k; a = a; b = b }) (record { kind = l; a = c; b = d })
     item-of p q r = cc
 
 -- weights stay below the number of items counted
-pub tally-grows : (us vs : List ℕ) (i g m : ℕ) → i ≤ g → g - i < limit → edgesIn vs m ≡ tallyOf (pairsOf (upFrom (itemAt us) i (g - i))) → Light vs m
+pub tally-grows : (us vs : List ℕ) (i g m : ℕ) → i ≤ g → g - i < limit → edgesIn vs m ≡ tallyOf (pairsOf (upFrom (itemRow us) i (g - i))) → Light vs m
 tally-grows us vs i g m h b e j l =
-    let o : edgeAt vs j .weight ≤ g - i = all-at (AtMost (g - i)) (edgeAt vs) 0 m j (rw e (edges-light (itemAt us) i (g - i))) (omega arith)
+    let o : edgeAt vs j .weight ≤ g - i = all-at (AtMost (g - i)) (edgeAt vs) 0 m j (rw e (edges-light (itemRow us) i (g - i))) (omega arith)
     (omega arith) in
     omega arith
 
@@ -97,7 +97,7 @@ tally-grows us vs i g m h b e j l =
 pub record Tallying (us vs : List ℕ) (g n m i : ℕ) : Type 0 where
   pub low : i ≤ g
   pub few : m ≤ g - i
-  pub list : edgesIn vs m ≡ tallyOf (pairsOf (upFrom (itemAt us) i (g - i)))
+  pub list : edgesIn vs m ≡ tallyOf (pairsOf (upFrom (itemRow us) i (g - i)))
   pub chain : Chained vs m n
   pub only : Only tallyColumns us vs
 
@@ -108,14 +108,14 @@ module _ (us vs : List ℕ) (g n : ℕ) (u : Unchained us vs n) where
 
   pub unchain-below : WiresBelow us g n → WiresBelow vs g n
   unchain-below b i h =
-      subst (λ (x : Item). x .kind ≡ matchItem → (x .a < n) × (x .b < n)) (sym (items-stay us vs unchain-only i)) (b i h)
+      subst (λ (x : ItemRow). x .kind ≡ matchItem → (x .a < n) × (x .b < n)) (sym (items-stay us vs unchain-only i)) (b i h)
 
   pub tally-start : Tallying vs vs g n 0 g
   unfolding upFrom
   tally-start = record {
     low = omega arith;
     few = omega arith;
-    list = counted-none (itemAt vs) g;
+    list = counted-none (itemRow vs) g;
     chain = unchained us vs n u;
     only = only-same tallyColumns vs;
   }
@@ -124,7 +124,7 @@ module _ (us vs : List ℕ) (g n : ℕ) (u : Unchained us vs n) where
   tally-from ws m t = record {
     list =
         t .list
-        ∙ ap (λ (l : List Item). tallyOf (pairsOf l)) (up-same (itemAt us) (itemAt vs) 0 g (λ i a b. items-stay us vs unchain-only i));
+        ∙ ap (λ (l : List ItemRow). tallyOf (pairsOf l)) (up-same (itemRow us) (itemRow vs) 0 g (λ i a b. items-stay us vs unchain-only i));
     few = t .few;
     only = only-trans tallyColumns us vs ws unchain-only (t .only);
   }
@@ -133,24 +133,24 @@ module _ (us vs : List ℕ) (g n m i : ℕ) (t : Tallying us vs g n m i) where
   pub tally-loads : 0 < i → g ≤ limit → Light vs m
   tally-loads h few = tally-grows us vs i g m (t .low) (omega (arith, t .low)) (t .list)
 
-  pub tally-below : 0 < i → WiresBelow us g n → ItemBelow vs (i - 1) n
+  pub tally-below : 0 < i → WiresBelow us g n → MatchBelow vs (i - 1) n
   tally-below h b =
-      subst (λ (x : Item). x .kind ≡ matchItem → (x .a < n) × (x .b < n)) (sym (items-stay us vs (t .only) (i - 1))) (b (i - 1) (omega (arith, t .low)))
+      subst (λ (x : ItemRow). x .kind ≡ matchItem → (x .a < n) × (x .b < n)) (sym (items-stay us vs (t .only) (i - 1))) (b (i - 1) (omega (arith, t .low)))
 
   pub tally-more : (ws : List ℕ) (r : ℕ) → 0 < i → Counted vs ws m n (i - 1) r → Tallying us ws g n r (i - 1)
   tally-more ws r h c = record {
     low = omega (arith, t .low);
     few = omega (arith, t .low, t .few, c .more .1);
     list =
-        counted-more (itemAt us) i g (edgesIn vs m) (edgesIn ws r) h (t .low) (t .list)
-        (c .list ∙ ap (λ (x : Item). countItemOf x (edgesIn vs m)) (items-stay us vs (t .only) (i - 1)));
+        counted-more (itemRow us) i g (edgesIn vs m) (edgesIn ws r) h (t .low) (t .list)
+        (c .list ∙ ap (λ (x : ItemRow). countItemOf x (edgesIn vs m)) (items-stay us vs (t .only) (i - 1)));
     chain = c .chain;
     only = only-trans tallyColumns us vs ws (t .only) (c .only);
   }
 
   pub tally-ends : i ≤ 0 → Tallied us vs g m
   tally-ends h = record {
-    list = t .list ∙ ap (λ (l : List Item). tallyOf (pairsOf l)) (up-all (itemAt us) i g h);
+    list = t .list ∙ ap (λ (l : List ItemRow). tallyOf (pairsOf l)) (up-all (itemRow us) i g h);
     few = omega (arith, t .few);
     only = t .only;
   }

@@ -12,7 +12,7 @@ use Rattle.laws.specs.Views.{upFrom, listOf}
 use Rattle.work.specs.Columns.{matchItem}
 use Rattle.order.specs.declared.edges.Edge.{Edge}
 use Rattle.order.specs.Weights.{Pair, pairOf, joinsOf, heavierOf, addOf, tallyOf, soonerOf, insertOf, heaviestOf, edgesOf}
-use Rattle.order.specs.Pairs.{Item, pairsOf}
+use Rattle.order.specs.Pairs.{ItemRow, pairsOf}
 
 -- ---- edges sorted
 
@@ -70,7 +70,7 @@ module _ (P : ℕ → ℕ → Type 0) where
 abbrev pub Below : ℕ → ℕ → ℕ → Type 0
 Below n a b = (a < n) × (b < n)
 
-pairs-below : (n : ℕ) (T : ℕ → Item) (k g : ℕ) → ((i : ℕ) → k ≤ i → i < k + g → T i .kind ≡ matchItem → Below n (T i .a) (T i .b))
+pairs-below : (n : ℕ) (T : ℕ → ItemRow) (k g : ℕ) → ((i : ℕ) → k ≤ i → i < k + g → T i .kind ≡ matchItem → Below n (T i .a) (T i .b))
     → All (OnPair (Below n)) (pairsOf (upFrom T k g))
 unfolding upFrom pairsOf
 pairs-below n T k zero h = tt
@@ -85,6 +85,6 @@ pairs-below n T k (suc g) h = go (eqb (T k .kind) matchItem) refl (pairs-below n
         (pair-on (Below n) (T k .a) (T k .b) o (o .1, o .0), r)
     go false e r = r
 
-pub edges-below : (n : ℕ) (T : ℕ → Item) (g : ℕ) → ((i : ℕ) → i < g → T i .kind ≡ matchItem → Below n (T i .a) (T i .b))
+pub edges-below : (n : ℕ) (T : ℕ → ItemRow) (g : ℕ) → ((i : ℕ) → i < g → T i .kind ≡ matchItem → Below n (T i .a) (T i .b))
     → All (OnEdge (Below n)) (edgesOf (pairsOf (listOf g T)))
 edges-below n T g h = edges-all (Below n) (pairsOf (listOf g T)) (pairs-below n T 0 g (λ i a b. h i (omega arith)))

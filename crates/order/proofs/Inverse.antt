@@ -14,7 +14,7 @@ use Rattle.order.specs.Weights.{Pair}
 use Rattle.order.specs.Cover.{wires, coverOf}
 use Rattle.order.specs.Arrangement.{flat, find}
 use Rattle.order.specs.Choice.{Arrangement, identityOf, chooseOrderOf}
-use Rattle.order.specs.Slice.{flag, Holds, Arranges}
+use Rattle.order.specs.Slice.{flag, HoldsOrder, Arranges}
 use Rattle.order.proofs.Totals.{times, length-wires}
 use Rattle.order.proofs.Permutation.{wires-times, cover-wires, Permutes, order-permutes}
 use Rattle.order.proofs.Arranged.{marked-is}
@@ -26,7 +26,7 @@ pub record Inverse (us : List ℕ) (n : ℕ) : Type 0 where
   pub wire-back : (w : ℕ) → w < n → markAt us (markAt us w posColumn) orderColumn ≡ w
   pub mode-back : (k : ℕ) → k < n → markAt us (markAt us k orderColumn) posColumn ≡ k
 
-pub holds-inverse : (us : List ℕ) (n : ℕ) (a : Arrangement) → Permutes n (a .order) → Holds us n a → Inverse us n
+pub holds-inverse : (us : List ℕ) (n : ℕ) (a : Arrangement) → Permutes n (a .order) → HoldsOrder us n a → Inverse us n
 holds-inverse us n a p h = record {
   wire-below = λ k l. subst (λ (x : ℕ). x < n) (sym (h .order k l)) (p .below k l);
   mode-below = λ w l. subst (λ (x : ℕ). x < n) (sym (h .pos w l)) (p .there w l);

@@ -10,7 +10,7 @@ use Rattle.laws.specs.Views.{upFrom, listOf}
 use Rattle.laws.proofs.Views.{up-head}
 use Rattle.order.specs.declared.edges.Edge.{Edge}
 use Rattle.order.specs.Weights.{weighsOf, tallyOf}
-use Rattle.order.specs.Pairs.{Item, pairsOf}
+use Rattle.order.specs.Pairs.{ItemRow, pairsOf}
 use Rattle.order.specs.Slice.{countItemOf}
 use Rattle.order.specs.Arrangement.{absDiffOf, besideOf}
 use Rattle.order.specs.Choice.{coversOf, coveredBy}
@@ -46,14 +46,14 @@ module _ {A : Type 0} (e : ℕ → A) where
 
 -- ---- items counted
 
-pub counted-none : (T : ℕ → Item) (g : ℕ) → [] ≡ tallyOf (pairsOf (upFrom T g (g - g)))
+pub counted-none : (T : ℕ → ItemRow) (g : ℕ) → [] ≡ tallyOf (pairsOf (upFrom T g (g - g)))
 unfolding tallyOf pairsOf
 counted-none T g = rw (up-end T g)
 
-pub counted-more : (T : ℕ → Item) (i g : ℕ) (es fs : List Edge) → 0 < i → i ≤ g → es ≡ tallyOf (pairsOf (upFrom T i (g - i)))
+pub counted-more : (T : ℕ → ItemRow) (i g : ℕ) (es fs : List Edge) → 0 < i → i ≤ g → es ≡ tallyOf (pairsOf (upFrom T i (g - i)))
     → fs ≡ countItemOf (T (i - 1)) es → fs ≡ tallyOf (pairsOf (upFrom T (i - 1) (g - (i - 1))))
 counted-more T i g es fs h l e f =
-    f ∙ ap (countItemOf (T (i - 1))) e ∙ sym (ap (λ (l : List Item). tallyOf (pairsOf l)) (up-prev T i g h l)
+    f ∙ ap (countItemOf (T (i - 1))) e ∙ sym (ap (λ (l : List ItemRow). tallyOf (pairsOf l)) (up-prev T i g h l)
     ∙ counted-cons (T (i - 1)) (upFrom T i (g - i)))
 
 -- ---- weights

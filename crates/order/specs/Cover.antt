@@ -80,9 +80,9 @@ unfoldable pub singles : List ℕ → List (List ℕ)
 singles [] = []
 singles (w ∷ ws) = (w ∷ []) ∷ singles ws
 
-abbrev pub apart : ℕ → Cover
-apart n = record { paths = singles (wires n); all = true }
+abbrev pub alone : ℕ → Cover
+alone n = record { paths = singles (wires n); all = true }
 
 unfoldable pub coverOf : ℕ → List Edge → Cover
 unfolding coverFrom singles wires
-coverOf n es = coverFrom es (apart n)
+coverOf n es = coverFrom es (alone n)

@@ -9,22 +9,23 @@ use Rattle.work.specs.Marks.{markAt}
 use Rattle.work.specs.Columns.{kindColumn, aColumn, bColumn, matchItem}
 use Rattle.order.specs.Weights.{Pair, pairOf}
 
-pub record Item : Type 0 where
+-- what a record has of its item: the kind and the wires
+pub record ItemRow : Type 0 where
   pub kind : ℕ
   pub a : ℕ
   pub b : ℕ
 
-abbrev pub itemAt : List ℕ → ℕ → Item
-itemAt us i = record { kind = markAt us i kindColumn; a = markAt us i aColumn; b = markAt us i bColumn }
+abbrev pub itemRow : List ℕ → ℕ → ItemRow
+itemRow us i = record { kind = markAt us i kindColumn; a = markAt us i aColumn; b = markAt us i bColumn }
 
 -- one pair for each block that is a matchgate
-unfoldable pub pairsOf : List Item → List Pair
+unfoldable pub pairsOf : List ItemRow → List Pair
 pairsOf [] = []
 pairsOf (t ∷ ts) = cond (eqb (t .kind) matchItem) (pairOf (t .a) (t .b) ∷ pairsOf ts) (pairsOf ts)
 
 -- the pairs of the first g records
 abbrev pub pairsIn : List ℕ → ℕ → List Pair
-pairsIn us g = pairsOf (listOf g (itemAt us))
+pairsIn us g = pairsOf (listOf g (itemRow us))
 
 -- the wires of the matchgates are below n
 abbrev pub WiresBelow : List ℕ → ℕ → ℕ → Type 0

@@ -12,7 +12,7 @@ use lib.Seq.{getD-set-same, getD-set-other}
 use lib.Ieee.{Float}
 use Rattle.laws.specs.Matrix.{Mat, at}
 use Rattle.laws.proofs.Cases.{eq-or-ne, lt-or-le}
-use Rattle.pfaffian.specs.Shot.{drawn, next, shot, reached, outcome, bit, qubitBit, wordOf}
+use Rattle.pfaffian.specs.Shot.{drawn, afterMode, shot, reached, outcome, bit, qubitBit, wordOf}
 use Rattle.pfaffian.specs.Turns.{Stands, Measures, Listed}
 
 -- ---- the outcomes
@@ -31,7 +31,7 @@ shot-at e t n k h = let z : 0 + k ≡ k = omega arith in rw z at (shot-from e t 
 pub length-shot : (m : Mat) (k n : ℕ) (t : ℕ → Float) → length (shot m k n t) ≡ n
 unfolding shot
 length-shot m k zero t = refl
-length-shot m k (suc n) t = ap suc (length-shot (next m k (drawn m k (t k))) (suc k) n t)
+length-shot m k (suc n) t = ap suc (length-shot (afterMode m k (drawn m k (t k))) (suc k) n t)
 
 -- ---- the loop over the modes
 

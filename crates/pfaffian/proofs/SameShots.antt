@@ -11,7 +11,7 @@ use lib.Ieee.{Float, binary64, add, sub, mul, div, neg, le, lt, eq, ofBits}
 use Rattle.laws.specs.Zeros.{+0, +1, nz}
 use Rattle.laws.specs.Matrix.{Mat}
 use Rattle.laws.proofs.Zeros.{le-cong}
-use Rattle.pfaffian.specs.Shot.{half, tiny, mabOf, drawn, spinOf, den, projected, updated, next, shot, shotOf, qubitBit, wordOf}
+use Rattle.pfaffian.specs.Shot.{half, tiny, mabOf, drawn, spinOf, den, projected, updated, afterMode, shot, shotOf, qubitBit, wordOf}
 use Rattle.pfaffian.proofs.Seen.{Seen, Alike, exactly, up-to-zeros, cond-seen, clamp-seen}
 
 -- what is not tiny is no zero
@@ -72,7 +72,7 @@ module _ (v : Float → Float) (see : Seen v) (dim k : ℕ) (a b : Mat) (room : 
           (cond-seen v (ltb e c) (ltb e c) (neg (projected a f k e c)) (a c e) (neg (projected b g k e c)) (b c e) refl left old))
           old
 
-    next-seen : Alike v (2 * suc k) dim (next a k one) (next b k one)
+    next-seen : Alike v (2 * suc k) dim (afterMode a k one) (afterMode b k one)
     next-seen c e lc hc l h′ =
         by (le (den a k one) tiny) refl
         ∙ ap (λ (t : Bool). v (cond t b (updated b (div binary64 (spinOf one) (den b k one)) k) c e))
@@ -94,8 +94,8 @@ module _ (v : Float → Float) (see : Seen v) (t : ℕ → Float) where
       let two : 2 * k + 2 ≤ dim = omega arith in
       let one = drawn a k (t k) in
       let same : one ≡ drawn b k (t k) = drawn-seen v see dim k a b two h (t k) in
-      (λ i. same i ∷ shot-seen n (suc k) dim (next a k one) (next b k one) (omega arith) (next-seen v see dim k a b two h one) i)
-      ∙ ap (λ (o : Bool). drawn b k (t k) ∷ shot (next b k o) (suc k) n t) same
+      (λ i. same i ∷ shot-seen n (suc k) dim (afterMode a k one) (afterMode b k one) (omega arith) (next-seen v see dim k a b two h one) i)
+      ∙ ap (λ (o : Bool). drawn b k (t k) ∷ shot (afterMode b k o) (suc k) n t) same
 
   shot-of-seen : (n : ℕ) (modes : ℕ → ℕ) (a b : Mat) → Alike v 0 (2 * n) a b → shotOf a n t modes ≡ shotOf b n t modes
   shot-of-seen n modes a b h =

@@ -58,18 +58,18 @@ updated m f k c e =
     cond (ltb (2 * k + 1) c && ltb (2 * k + 1) e) (cond (ltb c e) (projected m f k c e) (cond (ltb e c) (neg (projected m f k e c)) (m c e))) (m c e)
 
 -- the matrix after mode k: nothing is updated where den <= 1e-300. A NaN is not
-abbrev pub next : Mat → ℕ → Bool → Mat
-next m k one = cond (le (den m k one) tiny) m (updated m (div binary64 (spinOf one) (den m k one)) k)
+abbrev pub afterMode : Mat → ℕ → Bool → Mat
+afterMode m k one = cond (le (den m k one) tiny) m (updated m (div binary64 (spinOf one) (den m k one)) k)
 
 -- the outcomes of n modes from k on. Mode k uses draw t k, whatever its den
 unfoldable pub shot : Mat → ℕ → ℕ → (ℕ → Float) → List Bool
 shot m k zero t = []
-shot m k (suc n) t = let one = drawn m k (t k) in one ∷ shot (next m k one) (suc k) n t
+shot m k (suc n) t = let one = drawn m k (t k) in one ∷ shot (afterMode m k one) (suc k) n t
 
 -- the matrix when mode k is reached, and the outcome of mode k, which `shot` lists
 unfoldable pub reached : Mat → (ℕ → Float) → ℕ → Mat
 reached e t zero = e
-reached e t (suc k) = next (reached e t k) k (drawn (reached e t k) k (t k))
+reached e t (suc k) = afterMode (reached e t k) k (drawn (reached e t k) k (t k))
 
 abbrev pub outcome : Mat → (ℕ → Float) → ℕ → Bool
 outcome e t k = drawn (reached e t k) k (t k)

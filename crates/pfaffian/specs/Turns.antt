@@ -9,7 +9,7 @@ use lib.Ieee.{Float, nan, binary64, add, sub, mul, div, neg}
 use Rattle.laws.specs.Tables.{exchanged}
 use Rattle.laws.specs.Matrix.{Mat, at, matrix}
 use Rattle.laws.specs.Steps.{masked, inRow, colsFrom, cornerFrom, rightFrom, Formula, byPair}
-use Rattle.pfaffian.specs.Shot.{drawn, next, shot}
+use Rattle.pfaffian.specs.Shot.{drawn, afterMode, shot}
 
 -- ---- the Pfaffian
 
@@ -67,7 +67,7 @@ pub record Stands (dim k : ℕ) (fresh : Bool) (M : Mat) (m : List Float) : Type
 
 -- mode k is measured: whatever matrix the list stood for, the outcome is the plain one, and the list then stands for the plain next one
 abbrev pub Measures : ℕ → ℕ → Float → Bool → List Float → Bool → Bool → List Float → Type 0
-Measures dim k draw fresh m one fresh′ m′ = (M : Mat) → Stands dim k fresh M m → (one ≡ drawn M k draw) × Stands dim (suc k) fresh′ (next M k one) m′
+Measures dim k draw fresh m one fresh′ m′ = (M : Mat) → Stands dim k fresh M m → (one ≡ drawn M k draw) × Stands dim (suc k) fresh′ (afterMode M k one) m′
 
 -- the first n places of a list are those of `outcomes`, and the others as they were
 pub record Listed (n : ℕ) (outcomes bits₀ bits : List Bool) : Type 0 where

@@ -11,7 +11,7 @@ use Rattle.gate.specs.declared.matrix.Mat4.{Mat4}
 use Rattle.majorana.specs.Classify.{class2, classify2Of, swap4Of}
 use Rattle.majorana.specs.declared.classify.Kind2.{Kind2}
 use Rattle.majorana.specs.declared.classify.Kind2.the-variants.{Diag, Interaction, Match, NonGaussian}
-use Rattle.monomial.specs.Monomial.{flip, Mono4, Has4, wOf, fitting, Fits, Unfit}
+use Rattle.monomial.specs.Monomial.{flip, Mono4, Has4, wOf, matchgatePhase, IsMatchgate, SwappedMatchgate}
 use Rattle.monomial.specs.Algebra.{Even}
 use Rattle.monomial.specs.Tolerance.{Tolerance}
 use Rattle.monomial.proofs.Algebra.{times-even, kron-even, renamed-even, times-fits, kron-fits, renamed-fits}
@@ -21,20 +21,20 @@ use Rattle.monomial.proofs.Classes.{swapped, swapped-has, swapped-bitA, swapped
 use Rattle.resolve.specs.Items.{kindOf}
 use Rattle.register.specs.Blocks.{Closed, EvenSum, KindIs, matchgate, phaseless, interacting, neither, ClassIs, Rules}
 
-fit-or-not : (b : Mono4) (t : Bool) → Even t b → Fits b ⊎ Unfit b
+fit-or-not : (b : Mono4) (t : Bool) → Even t b → IsMatchgate b ⊎ SwappedMatchgate b
 fit-or-not b t e = by (b .swap) t e
   where
-    by : (s t : Bool) → wOf (b .phases) ≡ fitting t → (wOf (b .phases) ≡ fitting s) ⊎ (wOf (b .phases) ≡ fitting (not s))
+    by : (s t : Bool) → wOf (b .phases) ≡ matchgatePhase t → (wOf (b .phases) ≡ matchgatePhase s) ⊎ (wOf (b .phases) ≡ matchgatePhase (not s))
     by false false e = inl e
     by false true e = inr e
     by true false e = inr e
     by true true e = inl e
 
 -- and never both
-pub not-both : (b : Mono4) → Fits b → Unfit b → ⊥
+pub not-both : (b : Mono4) → IsMatchgate b → SwappedMatchgate b → ⊥
 not-both b F U = by (b .swap) (sym F ∙ U)
   where
-    by : (s : Bool) → fitting s ≡ fitting (not s) → ⊥
+    by : (s : Bool) → matchgatePhase s ≡ matchgatePhase (not s) → ⊥
     by false e = subst (λ (k : Phase). T (eqPhase i0 k)) e tt
     by true e = subst (λ (k : Phase). T (eqPhase i2 k)) e tt
 
@@ -58,7 +58,7 @@ module _ (tol : Float) (ok : Tolerance tol) (u : Mat4) (b : Mono4) (U : Has4 u b
   }
 
   -- a block that fits
-  pub fit-class : (relabel : Bool) (Q : Mono4 → Type 0) (Still : Type 0) → Q b → Fits b → ClassIs relabel Q Still b (classify2Of relabel tol u)
+  pub fit-class : (relabel : Bool) (Q : Mono4 → Type 0) (Still : Type 0) → Q b → IsMatchgate b → ClassIs relabel Q Still b (classify2Of relabel tol u)
   fit-class relabel Q Still q F = subst (ClassIs relabel Q Still b) (sym (classify-fits tol ok u b U relabel F)) (by (diagonal b) refl)
     where
       by : (d : Bool) → diagonal b ≡ d → ClassIs relabel Q Still b (cond d (class2 Diag false u true) (class2 (Match f0) false u false))
@@ -66,7 +66,7 @@ module _ (tol : Float) (ok : Tolerance tol) (u : Mat4) (b : Mono4) (U : Has4 u b
       by false e = as-it-is (Match f0) false q (matchgate refl F e)
 
   -- one that does not, without relabelling
-  unfit-class : EvenSum b → Unfit b → ClassIs false EvenSum ⊥ b (classify2Of false tol u)
+  unfit-class : EvenSum b → SwappedMatchgate b → ClassIs false EvenSum ⊥ b (classify2Of false tol u)
   unfit-class q F = subst (ClassIs false EvenSum ⊥ b) (sym (classify-unfit tol ok u b U F)) (by (diagonal b) refl)
     where
       by : (d : Bool) → diagonal b ≡ d → ClassIs false EvenSum ⊥ b (cond d (class2 Interaction false u true) (class2 (NonGaussian f1) false u false))
@@ -74,7 +74,7 @@ module _ (tol : Float) (ok : Tolerance tol) (u : Mat4) (b : Mono4) (U : Has4 u b
       by false e = as-it-is (NonGaussian f1) false q (neither refl refl F e)
 
   -- and with it, where v fits
-  swapped-class : EvenSum b → Unfit b → ClassIs true EvenSum ⊥ b (classify2Of true tol u)
+  swapped-class : EvenSum b → SwappedMatchgate b → ClassIs true EvenSum ⊥ b (classify2Of true tol u)
   swapped-class q F = subst (ClassIs true EvenSum ⊥ b) (sym (classify-swapped tol ok u b U F)) (by (diagonal (swapped b)) refl)
     where
       by : (d : Bool) → diagonal (swapped b) ≡ d
@@ -85,7 +85,7 @@ module _ (tol : Float) (ok : Tolerance tol) (u : Mat4) (b : Mono4) (U : Has4 u b
   pub even-class : (relabel : Bool) → EvenSum b → ClassIs relabel EvenSum ⊥ b (classify2Of relabel tol u)
   even-class relabel q = by (fit-or-not b (q .0) (q .1)) relabel
     where
-      by : Fits b ⊎ Unfit b → (relabel : Bool) → ClassIs relabel EvenSum ⊥ b (classify2Of relabel tol u)
+      by : IsMatchgate b ⊎ SwappedMatchgate b → (relabel : Bool) → ClassIs relabel EvenSum ⊥ b (classify2Of relabel tol u)
       by (inl F) relabel = fit-class relabel EvenSum ⊥ q F
       by (inr F) false = unfit-class q F
       by (inr F) true = swapped-class q F
@@ -99,7 +99,7 @@ even-closed = record {
   renaming = λ b p. (p .0, renamed-even (p .0) b (p .1));
 }
 
-pub fits-closed : Closed Fits
+pub fits-closed : Closed IsMatchgate
 fits-closed = record { kron = kron-fits; times = times-fits; renaming = renamed-fits }
 
 -- all blocks of a register tape
@@ -109,8 +109,8 @@ evenRules relabel tol ok = record { Q = EvenSum; Still = ⊥; closed = even-clos
 -- those of one without Swap
 abbrev pub fitRules : (relabel : Bool) (tol : Float) → Tolerance tol → Rules relabel tol
 fitRules relabel tol ok = record {
-  Q = Fits;
+  Q = IsMatchgate;
   Still = Unit {0};
   closed = fits-closed;
-  class = λ u b h q. fit-class tol ok u b h relabel Fits (Unit {0}) q q;
+  class = λ u b h q. fit-class tol ok u b h relabel IsMatchgate (Unit {0}) q q;
 }

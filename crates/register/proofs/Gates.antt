@@ -17,7 +17,7 @@ use Rattle.gate.specs.declared.matrix.Mat4.{Mat4}
 use Rattle.tape.specs.Good.{GoodOne, GoodTwo, GoodGate}
 use Rattle.tape.specs.declared.gates.Gate.{Gate}
 use Rattle.tape.specs.declared.gates.Gate.the-variants.{One, Two, Three}
-use Rattle.monomial.specs.Monomial.{Mono4, Has2, Has4, wOf, fitting, Fits}
+use Rattle.monomial.specs.Monomial.{Mono4, Has2, Has4, wOf, matchgatePhase, IsMatchgate}
 use Rattle.monomial.specs.Algebra.{Even, mono1qOf, mono2qFrom}
 use Rattle.monomial.proofs.Tests.{at-each}
 use Rattle.monomial.proofs.Gates.{code1-has, code1-turns, code2-has, code2-exchanges, code2-even}
@@ -47,11 +47,11 @@ code2-swap : (j : ℕ) → j < 3 → mono2qFrom j .swap ≡ true
 code2-swap = at-each 3 (λ j. mono2qFrom j .swap ≡ true) (refl, (refl, (refl, tt)))
 
 -- ISwap and its adjoint fit
-code2-fits : (code : ℕ) → T (registerTwo code) → code ≢ swapCode → Fits (mono2qFrom (code - swapCode))
+code2-fits : (code : ℕ) → T (registerTwo code) → code ≢ swapCode → IsMatchgate (mono2qFrom (code - swapCode))
 code2-fits code t ne =
     let c = two-code code t in
     let e : eqb (code - swapCode) 0 ≡ false = ne-eqb (code - swapCode) 0 (λ z. ne (c .1 ∙ ap (λ j. swapCode + j) z)) in
-    subst (λ s. wOf (mono2qFrom (code - swapCode) .phases) ≡ fitting s) (sym (code2-swap (code - swapCode) (c .0)))
+    subst (λ s. wOf (mono2qFrom (code - swapCode) .phases) ≡ matchgatePhase s) (sym (code2-swap (code - swapCode) (c .0)))
     (subst (λ s. Even (not s) (mono2qFrom (code - swapCode))) e (code2-even (code - swapCode) (c .0)))
 
 -- ---- the gates
@@ -102,7 +102,7 @@ register-gate n P (Two code a b m) g t =
 register-gate n P (Three a b c) g t = absurd t
 
 -- no Swap, and on neighbours
-pub fitting-gate : (n : ℕ) (x : Gate) → GoodGate n x → RegisterGate x → PlainGate x → GateIs n Fits Beside (Unit {0}) x
-fitting-gate n (One code q m) g t c = one-is n Fits Beside (Unit {0}) code q m g t
-fitting-gate n (Two code a b m) g t c = two-is n Fits Beside (Unit {0}) code a b m g t (code2-fits code t (c .0)) (λ s. c)
+pub fitting-gate : (n : ℕ) (x : Gate) → GoodGate n x → RegisterGate x → PlainGate x → GateIs n IsMatchgate Beside (Unit {0}) x
+fitting-gate n (One code q m) g t c = one-is n IsMatchgate Beside (Unit {0}) code q m g t
+fitting-gate n (Two code a b m) g t c = two-is n IsMatchgate Beside (Unit {0}) code a b m g t (code2-fits code t (c .0)) (λ s. c)
 fitting-gate n (Three a b d) g t c = absurd t

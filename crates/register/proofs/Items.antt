@@ -17,7 +17,7 @@ use Rattle.laws.proofs.Lists.{all-map, all-onto}
 use Rattle.tape.specs.Good.{GoodGate}
 use Rattle.tape.specs.declared.gates.Gate.{Gate}
 use Rattle.work.specs.Columns.{matchItem, diagonalItem}
-use Rattle.monomial.specs.Monomial.{Mono4, Fits}
+use Rattle.monomial.specs.Monomial.{Mono4, IsMatchgate}
 use Rattle.monomial.specs.Tolerance.{Tolerance}
 use Rattle.fuse.specs.Events.{Event, one, two}
 use Rattle.fuse.specs.Relabel.{slotOf, labelled, unlabelled}
@@ -44,13 +44,13 @@ use Rattle.register.proofs.Remainders.{all-rests, rests-are}
 
 -- ---- items whose blocks fit
 
-fits-kind : (relabel : Bool) (b : Mono4) (kind : ℕ) → Fits b → KindIs relabel b kind → (kind ≡ matchItem) ⊎ (kind ≡ diagonalItem)
+fits-kind : (relabel : Bool) (b : Mono4) (kind : ℕ) → IsMatchgate b → KindIs relabel b kind → (kind ≡ matchItem) ⊎ (kind ≡ diagonalItem)
 fits-kind relabel b kind F (matchgate e G d) = inl e
 fits-kind relabel b kind F (phaseless e G d) = inr e
 fits-kind relabel b kind F (interacting e r U d) = absurd (not-both b F U)
 fits-kind relabel b kind F (neither e r U d) = absurd (not-both b F U)
 
-gaussian-item : (relabel : Bool) (n : ℕ) (x : Item) → ItemIs relabel n Fits Beside (Unit {0}) x → GaussianItem n x
+gaussian-item : (relabel : Bool) (n : ℕ) (x : Item) → ItemIs relabel n IsMatchgate Beside (Unit {0}) x → GaussianItem n x
 gaussian-item relabel n (Items.one w m) h = h
 gaussian-item relabel n (Items.two kind a b r v) h =
     (h .0 .0, h .0 .1, h .0 .3 tt, (h .1 .0, h .1 .1, h .1 .2), fits-kind relabel (h .1 .0) kind (h .1 .2) (h .1 .3))
@@ -143,7 +143,7 @@ module _ (n : ℕ) (gs : List Gate) (good : (x : Gate) → List·Memᴰ x gs →
   -- one without Swap whose pairs are neighbours
   module _ (plain : (x : Gate) → List·Memᴰ x gs → PlainGate x) where
     fits-follow : (let s = labelled relabel gs (unlabelled n) in
-        Follows relabel n Fits Beside (Unit {0}) gs s (fuseOf relabel tol n (s .swaps) (s .events)))
+        Follows relabel n IsMatchgate Beside (Unit {0}) gs s (fuseOf relabel tol n (s .swaps) (s .events)))
     fits-follow =
         follows relabel tol (fitRules relabel tol ok) n Beside gs (all-members gs (λ x m. fitting-gate n x (good x m) (register x m) (plain x m)))
 

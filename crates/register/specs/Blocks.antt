@@ -13,7 +13,7 @@ use Rattle.gate.specs.declared.matrix.Mat4.{Mat4}
 use Rattle.work.specs.Columns.{matchItem, diagonalItem, interactionItem, neitherItem}
 use Rattle.tape.specs.declared.gates.Gate.{Gate}
 use Rattle.tape.specs.declared.gates.Gate.the-variants.{One, Two, Three}
-use Rattle.monomial.specs.Monomial.{Mono2, Mono4, Has2, Has4, bitA, bitB, Fits, Unfit}
+use Rattle.monomial.specs.Monomial.{Mono2, Mono4, Has2, Has4, bitA, bitB, IsMatchgate, SwappedMatchgate}
 use Rattle.monomial.specs.Algebra.{times4, kron4, renamed, Even}
 use Rattle.monomial.proofs.Diagonals.{diagonal}
 use Rattle.majorana.specs.Classify.{classify2Of}
@@ -68,10 +68,10 @@ pub record Places (n : ℕ) (Still : Type 0) (l : List ℕ) : Type 0 where
 
 -- what the kind of an item says of its block: an interaction and what is neither come only without relabelling
 pub data KindIs (relabel : Bool) (b : Mono4) (kind : ℕ) : Type 0 where
-  matchgate : kind ≡ matchItem → Fits b → diagonal b ≡ false → KindIs relabel b kind
-  phaseless : kind ≡ diagonalItem → Fits b → diagonal b ≡ true → KindIs relabel b kind
-  interacting : kind ≡ interactionItem → relabel ≡ false → Unfit b → diagonal b ≡ true → KindIs relabel b kind
-  neither : kind ≡ neitherItem → relabel ≡ false → Unfit b → diagonal b ≡ false → KindIs relabel b kind
+  matchgate : kind ≡ matchItem → IsMatchgate b → diagonal b ≡ false → KindIs relabel b kind
+  phaseless : kind ≡ diagonalItem → IsMatchgate b → diagonal b ≡ true → KindIs relabel b kind
+  interacting : kind ≡ interactionItem → relabel ≡ false → SwappedMatchgate b → diagonal b ≡ true → KindIs relabel b kind
+  neither : kind ≡ neitherItem → relabel ≡ false → SwappedMatchgate b → diagonal b ≡ false → KindIs relabel b kind
 
 -- what the class c of a matrix with the block b says: v has a block of the class Q, whose bits are those of b, exchanged where `swap` is set;
 -- nothing is renamed where `Still` holds

@@ -10,7 +10,7 @@ use Rattle.laws.specs.Lists.{All}
 use Rattle.tape.specs.declared.gates.Gate.{Gate}
 use Rattle.tape.specs.declared.gates.Gate.the-variants.{One, Two, Three}
 use Rattle.work.specs.Columns.{matchItem, diagonalItem}
-use Rattle.monomial.specs.Monomial.{Mono4, Fits}
+use Rattle.monomial.specs.Monomial.{Mono4, IsMatchgate}
 use Rattle.fuse.specs.Relabel.{swapCode, Labelled, slotOf}
 use Rattle.resolve.specs.Items.{Item, one, two, opaque}
 use Rattle.resolve.specs.Whole.{Fused}
@@ -49,7 +49,7 @@ PlainGate (Three a b c) = ⊥
 -- a matchgate on neighbours, or diagonal with no phase, or on one wire
 abbrev pub GaussianItem : ℕ → Item → Type 0
 GaussianItem n (one w m) = (w < n) × Turn m
-GaussianItem n (two kind a b residual v) = (a < n) × (b < n) × Beside a b × Block Fits v × ((kind ≡ matchItem) ⊎ (kind ≡ diagonalItem))
+GaussianItem n (two kind a b residual v) = (a < n) × (b < n) × Beside a b × Block IsMatchgate v × ((kind ≡ matchItem) ⊎ (kind ≡ diagonalItem))
 GaussianItem n opaque = ⊥
 
 pub record Plain (n : ℕ) (s : Labelled) (f : Fused) : Type 0 where

@@ -23,15 +23,15 @@ use Rattle.resolve.specs.declared.settle.Tally.{Tally}
 use Rattle.resolve.specs.Cuts.{ahead, cuts, prefixOf}
 use Rattle.resolve.specs.Choose.{chooseOf}
 use Rattle.resolve.specs.Resolve.{none, opened, Resolved, passed, settled, closed, candidates, chosen, resolveStep, resolved}
-use Rattle.resolve.specs.Slots.{restAt, itemAt, stateAt, todo, firstRow, secondRow, RowOnly, Prefixes, Moved, maxCandidates, Dealt, AllDealt}
+use Rattle.resolve.specs.Slots.{restAt, itemAt, resolvedAt, todo, firstRow, secondRow, RowOnly, Prefixes, Moved, maxCandidates, Dealt, AllDealt}
 use Rattle.resolve.proofs.Counts.{pairs-few}
 use Rattle.resolve.proofs.Choosing.{choose-same}
 use Rattle.resolve.proofs.Tails.{row-only-event}
 use Rattle.resolve.proofs.Records.{marks-same, marks-put, floats-same}
 use Rattle.resolve.proofs.States.{scratch-state, own-none, own-event, own-within}
 
-rest-is : (xs : List Float) (us : List ℕ) (g n i s : ℕ) (t : Tally) → s < n → getD (stateAt xs us g n i t .rests) s none ≡ restAt xs us g s
-unfolding stateAt
+rest-is : (xs : List Float) (us : List ℕ) (g n i s : ℕ) (t : Tally) → s < n → getD (resolvedAt xs us g n i t .rests) s none ≡ restAt xs us g s
+unfolding resolvedAt
 rest-is xs us g n i s t l = getD-listOf n (restAt xs us g) s none l
 
 gone-item : (xs : List Float) (us : List ℕ) (i : ℕ) → 32 * i < length us → itemAt xs (putMark us i kindColumn goneKind) i ≡ []
@@ -104,12 +104,12 @@ module _ (relabel : Bool) (tol : Float) (xs xs₁ xs₂ ys : List Float) (us vs 
   es = todo xs us (i + 1) g
 
   abbrev r : Resolved
-  r = stateAt xs us g n i t
+  r = resolvedAt xs us g n i t
 
   same-event : (j : ℕ) → eventAt xs₂ us j ≡ eventAt xs us j
   same-event j = row-only-event 48 xs₁ xs₂ (omega arith) (q .only) us j ∙ row-only-event 40 xs xs₁ (omega arith) (p .only) us j
 
-  same-state : stateAt xs₂ us g n i t ≡ r
+  same-state : resolvedAt xs₂ us g n i t ≡ r
   same-state = scratch-state 48 xs₁ xs₂ us g n i t (omega arith) (q .only) ∙ scratch-state 40 xs xs₁ us g n i t (omega arith) (p .only)
 
   second-tail : ahead b (todo xs₁ us (i + 1) g) ≡ ahead b es
@@ -161,7 +161,7 @@ module _ (relabel : Bool) (tol : Float) (xs₀ : List Float) (us₀ : List ℕ) 
     pub swaps : t .swaps ≤ t₀ .swaps + i
     pub tried : t .tried ≤ t₀ .tried + maxCandidates * i
     pub lab : (q : ℕ) → markAt us q labColumn ≡ markAt us₀ q labColumn
-    pub rest : resolved relabel tol (todo xs us i g) (stateAt xs us g n i t) ≡ resolved relabel tol (todo xs₀ us₀ 0 g) (stateAt xs₀ us₀ g n 0 t₀)
+    pub rest : resolved relabel tol (todo xs us i g) (resolvedAt xs us g n i t) ≡ resolved relabel tol (todo xs₀ us₀ 0 g) (resolvedAt xs₀ us₀ g n 0 t₀)
 
   pub dealing-none : Within us₀ 0 g n → Dealing xs₀ us₀ 0 t₀
   dealing-none w = record { up = omega arith; size = refl; marks = refl; within = w; swaps = omega arith; tried = omega arith; lab = λ q. refl; rest = refl }
@@ -178,7 +178,7 @@ module _ (relabel : Bool) (tol : Float) (xs₀ : List Float) (us₀ : List ℕ) 
     tried = omega (arith, e .tried, d .tried);
     lab = λ q. e .moved .lab q ∙ d .lab q;
     rest = ap₂ (resolved relabel tol) (up-same (eventAt xs us) (eventAt ys vs) (i + 1) (g - (i + 1)) (λ j a b. e .moved .later j (omega arith) (omega arith))) (e .moved .state)
-        ∙ sym (ap (λ l. resolved relabel tol l (stateAt xs us g n i t)) (up-head (eventAt xs us) i g h)) ∙ d .rest;
+        ∙ sym (ap (λ l. resolved relabel tol l (resolvedAt xs us g n i t)) (up-head (eventAt xs us) i g h)) ∙ d .rest;
   }
 
   pub dealing-end : (xs : List Float) (us : List ℕ) (i : ℕ) (t : Tally) → g ≤ i → Dealing xs us i t → AllDealt relabel tol xs₀ xs us₀ us g n t₀ t
@@ -190,5 +190,5 @@ module _ (relabel : Bool) (tol : Float) (xs₀ : List Float) (us₀ : List ℕ) 
         size = d .size;
         marks = d .marks;
         lab = d .lab;
-        state = ap (λ i. stateAt xs us g n i t) (sym e) ∙ sym (ap (λ k. resolved relabel tol (upFrom (eventAt xs us) i k) (stateAt xs us g n i t)) z) ∙ d .rest;
+        state = ap (λ i. resolvedAt xs us g n i t) (sym e) ∙ sym (ap (λ k. resolved relabel tol (upFrom (eventAt xs us) i k) (resolvedAt xs us g n i t)) z) ∙ d .rest;
       }

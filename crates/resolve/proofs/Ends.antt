@@ -20,7 +20,7 @@ use Rattle.fuse.proofs.Listed.{listed-same}
 use Rattle.resolve.specs.declared.settle.Tally.{Tally}
 use Rattle.resolve.specs.Items.{newestFirst}
 use Rattle.resolve.specs.Resolve.{none, Resolved, restItem, withRests, startOf}
-use Rattle.resolve.specs.Slots.{restAt, splitAt, itemAt, stateAt, emptiedMarks, Begun, Finished}
+use Rattle.resolve.specs.Slots.{restAt, splitAt, itemAt, resolvedAt, emptiedMarks, Begun, Finished}
 use Rattle.resolve.proofs.Records.{newest-same, newest-more, MarksOf, marks-same, marks-put, item-alike}
 use Rattle.resolve.proofs.States.{emptied-marks, emptied-kind, emptied-split}
 
@@ -71,7 +71,7 @@ module _ (us vs : List ℕ) (g s : ℕ) (b : Beginning us vs g s) where
       }
 
 pub begin-end : (xs : List Float) (us vs : List ℕ) (g n s : ℕ) → n ≤ s → Beginning us vs g s → Begun xs us vs g n
-unfolding stateAt startOf newestFirst restAt
+unfolding resolvedAt startOf newestFirst restAt
 begin-end xs us vs g n s h b = record {
   size = b .size;
   lab = b .lab;
@@ -114,8 +114,8 @@ with-more r k = refl
 
 -- what the state says of slot k
 read : (xs : List Float) (us : List ℕ) (g n k : ℕ) (t : Tally) → k < n
-    → restItem (getD (stateAt xs us g n g t .content) k 0) (getD (stateAt xs us g n g t .rests) k none) ≡ restItem (markAt us k contentColumn) (restAt xs us g k)
-unfolding stateAt
+    → restItem (getD (resolvedAt xs us g n g t .content) k 0) (getD (resolvedAt xs us g n g t .rests) k none) ≡ restItem (markAt us k contentColumn) (restAt xs us g k)
+unfolding resolvedAt
 read xs us g n k t l = ap₂ restItem (getD-listOf n (λ s. markAt us s contentColumn) k 0 l) (getD-listOf n (restAt xs us g) k none l)
 
 pub record Finishing (xs : List Float) (us vs : List ℕ) (g s : ℕ) : Type 0 where
@@ -164,8 +164,8 @@ module _ (xs : List Float) (us vs : List ℕ) (g s : ℕ) (f : Finishing xs us v
       (no-item xs us vs g s room (λ e. k (f .left s 0 (omega arith) (omega arith) ∙ e)))
 
 -- the items of the gates' records
-below : (xs : List Float) (us vs : List ℕ) (g n s : ℕ) (t : Tally) → Finishing xs us vs g s → newestFirst (itemAt xs vs) g ≡ withRests (stateAt xs us g n g t) 0
-unfolding stateAt withRests
+below : (xs : List Float) (us vs : List ℕ) (g n s : ℕ) (t : Tally) → Finishing xs us vs g s → newestFirst (itemAt xs vs) g ≡ withRests (resolvedAt xs us g n g t) 0
+unfolding resolvedAt withRests
 below xs us vs g n s t f =
     newest-same (itemAt xs us) (itemAt xs vs) g
     (λ j l. item-alike xs xs us vs j (f .gates j 0 l (omega arith)) (f .gates j 1 l (omega arith)) (f .gates j 2 l (omega arith)) (λ q a b. refl))
@@ -173,6 +173,6 @@ below xs us vs g n s t f =
 pub finish-end : (xs : List Float) (us vs : List ℕ) (g n s : ℕ) (t : Tally) → n ≤ s → Finishing xs us vs g s → Finished xs us vs g n t
 finish-end xs us vs g n s t h f = record { size = f .size; items = upTo n (omega arith); content = f .wires; lab = f .lab }
   where
-    upTo : (k : ℕ) → k ≤ n → newestFirst (itemAt xs vs) (g + k) ≡ withRests (stateAt xs us g n g t) k
+    upTo : (k : ℕ) → k ≤ n → newestFirst (itemAt xs vs) (g + k) ≡ withRests (resolvedAt xs us g n g t) k
     upTo zero l = ap (newestFirst (itemAt xs vs)) (add-zero g) ∙ below xs us vs g n s t f
-    upTo (suc k) l = ap (newestFirst (itemAt xs vs)) (add-suc g k ∙ sym (add-one (g + k))) ∙ newest-more (itemAt xs vs) (g + k) ∙ ap₂ _++_ (f .made k (omega arith) ∙ sym (read xs us g n k t (omega arith))) (upTo k (omega arith)) ∙ sym (with-more (stateAt xs us g n g t) k)
+    upTo (suc k) l = ap (newestFirst (itemAt xs vs)) (add-suc g k ∙ sym (add-one (g + k))) ∙ newest-more (itemAt xs vs) (g + k) ∙ ap₂ _++_ (f .made k (omega arith) ∙ sym (read xs us g n k t (omega arith))) (upTo k (omega arith)) ∙ sym (with-more (resolvedAt xs us g n g t) k)

@@ -23,17 +23,17 @@ use Rattle.resolve.specs.declared.settle.Tally.{Tally}
 use Rattle.resolve.specs.Items as Items
 use Rattle.resolve.specs.Items.{kindOf}
 use Rattle.resolve.specs.Resolve.{Resolved, opened, lengthened, promised, emptied, renamed, added, passed, itemOf, settled, closed}
-use Rattle.resolve.specs.Slots.{restAt, splitAt, itemAt, stateAt, emptiedMarks, tradedMarks, itemMarks, itemFloats, Moved}
+use Rattle.resolve.specs.Slots.{restAt, splitAt, itemAt, resolvedAt, emptiedMarks, tradedMarks, itemMarks, itemFloats, Moved}
 use Rattle.resolve.proofs.Records.{marks-same, marks-put, floats-same, floats-put2}
 use Rattle.resolve.proofs.States.{slot-event, slot-within, emptied-marks, emptied-state, lengthened-state, promised-state, traded-size, traded-lab, traded-event, traded-within, renamed-state, own-added, own-none, own-event, own-within, item-marks, opaque-item, item-floats, block-item}
 
 -- what the state says of a slot
-pub split-is : (xs : List Float) (us : List ℕ) (g n i s : ℕ) (t : Tally) → s < n → getD (stateAt xs us g n i t .splits) s 0 ≡ splitAt us g s
-unfolding stateAt
+pub split-is : (xs : List Float) (us : List ℕ) (g n i s : ℕ) (t : Tally) → s < n → getD (resolvedAt xs us g n i t .splits) s 0 ≡ splitAt us g s
+unfolding resolvedAt
 split-is xs us g n i s t l = getD-listOf n (splitAt us g) s 0 l
 
-pub wire-is : (xs : List Float) (us : List ℕ) (g n i s : ℕ) (t : Tally) → s < n → getD (stateAt xs us g n i t .content) s 0 ≡ markAt us s contentColumn
-unfolding stateAt
+pub wire-is : (xs : List Float) (us : List ℕ) (g n i s : ℕ) (t : Tally) → s < n → getD (resolvedAt xs us g n i t .content) s 0 ≡ markAt us s contentColumn
+unfolding resolvedAt
 wire-is xs us g n i s t l = getD-listOf n (λ s. markAt us s contentColumn) s 0 l
 
 module _ (xs : List Float) (us : List ℕ) (g n i : ℕ) (room : Space xs us g n) (h : i < g) (w : Within us i g n) where
@@ -53,7 +53,7 @@ module _ (xs : List Float) (us : List ℕ) (g n i : ℕ) (room : Space xs us g n
     unfolding itemAt
     no-item = rw one
 
-    next : (t : Tally) → stateAt xs us g n (i + 1) t ≡ stateAt xs us g n i t
+    next : (t : Tally) → resolvedAt xs us g n (i + 1) t ≡ resolvedAt xs us g n i t
     next t = own-none g n i xs xs us us (floats-same i xs) (marks-same i us) h t no-item
 
     pub pass-longer : (x : Mat2) (t : Tally) → splitAt us g s ≡ 0 → x ≡ mul2Of m (opened (restAt xs us g s))
@@ -63,12 +63,12 @@ module _ (xs : List Float) (us : List ℕ) (g n i : ℕ) (room : Space xs us g n
         let o = marks-put (g + s) us us 0 4 (omega arith) (marks-same (g + s) us) in
         let ys = putMatrix2Of xs (g + s) x in
         let vs = putMark us (g + s) 0 4 in
-        let tests : eqb (getD (stateAt xs us g n i t .splits) s 0) 0 ≡ true = eq-eqb _ _ (split-is xs us g n i s t slot ∙ z) in
+        let tests : eqb (getD (resolvedAt xs us g n i t .splits) s 0) 0 ≡ true = eq-eqb _ _ (split-is xs us g n i s t slot ∙ z) in
         record {
           size = f .size;
           marks = o .size;
           state = lengthened-state xs us g n s (i + 1) t slot (omega arith) (omega (arith, room .floats, slot)) (omega (arith, room .marks, slot)) m x e
-              ∙ ap (lengthened s m) (next t) ∙ sym (ap (λ b. cond b (lengthened s m (stateAt xs us g n i t)) (promised s (getD (stateAt xs us g n i t .splits) s 0 - 1) (stateAt xs us g n i t))) tests);
+              ∙ ap (lengthened s m) (next t) ∙ sym (ap (λ b. cond b (lengthened s m (resolvedAt xs us g n i t)) (promised s (getD (resolvedAt xs us g n i t .splits) s 0 - 1) (resolvedAt xs us g n i t))) tests);
           later = λ j a b. slot-event g n s xs ys us vs f o j b;
           lab = o .lab;
           within = slot-within g n s xs ys us vs f o i (i + 1) (omega arith) w;
@@ -81,14 +81,14 @@ module _ (xs : List Float) (us : List ℕ) (g n i : ℕ) (room : Space xs us g n
         let o = marks-put (g + s) us us 3 k (omega arith) (marks-same (g + s) us) in
         let vs = putMark us (g + s) 3 k in
         let is = split-is xs us g n i s t slot in
-        let tests : eqb (getD (stateAt xs us g n i t .splits) s 0) 0 ≡ false = ne-eqb _ _ (λ e. z (sym is ∙ e)) in
+        let tests : eqb (getD (resolvedAt xs us g n i t .splits) s 0) 0 ≡ false = ne-eqb _ _ (λ e. z (sym is ∙ e)) in
         record {
           size = refl;
           marks = o .size;
           state = promised-state xs us g n s (i + 1) t slot (omega arith) (omega (arith, room .floats, slot)) (omega (arith, room .marks, slot)) k
               ∙ ap (promised s k) (next t)
-              ∙ ap (λ j. promised s (j - 1) (stateAt xs us g n i t)) (sym is)
-              ∙ sym (ap (λ b. cond b (lengthened s m (stateAt xs us g n i t)) (promised s (getD (stateAt xs us g n i t .splits) s 0 - 1) (stateAt xs us g n i t))) tests);
+              ∙ ap (λ j. promised s (j - 1) (resolvedAt xs us g n i t)) (sym is)
+              ∙ sym (ap (λ b. cond b (lengthened s m (resolvedAt xs us g n i t)) (promised s (getD (resolvedAt xs us g n i t .splits) s 0 - 1) (resolvedAt xs us g n i t))) tests);
           later = λ j a b. slot-event g n s xs xs us vs f o j b;
           lab = o .lab;
           within = slot-within g n s xs xs us vs f o i (i + 1) (omega arith) w;
@@ -98,7 +98,7 @@ module _ (xs : List Float) (us : List ℕ) (g n i : ℕ) (room : Space xs us g n
 
   pub record Emptied (f : Resolved → Resolved) (vs : List ℕ) : Type 0 where
     pub size : length vs ≡ length us
-    pub state : (t : Tally) → stateAt xs vs g n i t ≡ f (stateAt xs us g n i t)
+    pub state : (t : Tally) → resolvedAt xs vs g n i t ≡ f (resolvedAt xs us g n i t)
     pub events : (j : ℕ) → j < g → eventAt xs vs j ≡ eventAt xs us j
     pub lab : (q : ℕ) → markAt vs q labColumn ≡ markAt us q labColumn
     pub within : Within vs i g n
@@ -152,7 +152,7 @@ module _ (xs : List Float) (us : List ℕ) (g n i : ℕ) (room : Space xs us g n
     ws = itemMarks vs i (kindOf (x .class .kind)) wa wb
 
     abbrev r : Resolved
-    r = stateAt xs us g n i t
+    r = resolvedAt xs us g n i t
 
     the-item : itemAt ys ws i ≡ itemOf a b x r ∷ []
     the-item =
@@ -160,7 +160,7 @@ module _ (xs : List Float) (us : List ℕ) (g n i : ℕ) (room : Space xs us g n
         ∙ ap₂ (λ p q. Items.two (kindOf (x .class .kind)) p q (residualOf (x .class .kind)) (x .class .v) ∷ []) (ea ∙ sym (wire-is xs us g n i a t la)) (eb ∙ sym (wire-is xs us g n i b t lb))
 
     with-item : (swaps : ℕ) → t′ .swaps ≡ t .swaps + swaps
-        → stateAt ys ws g n (i + 1) t′ ≡ added (itemOf a b x r) swaps tried angled (emptied b (x .kb) (emptied a (x .ka) r))
+        → resolvedAt ys ws g n (i + 1) t′ ≡ added (itemOf a b x r) swaps tried angled (emptied b (x .kb) (emptied a (x .ka) r))
     with-item swaps es =
         own-added g n i xs ys vs ws (item-floats xs i (x .class)) (item-marks vs i (kindOf (x .class .kind)) wa wb) h (itemOf a b x r) swaps tried angled t t′ the-item es et en
         ∙ ap (added (itemOf a b x r) swaps tried angled) (e .state t)

@@ -29,7 +29,7 @@ use Rattle.resolve.specs.declared.settle.Tally.{Tally}
 use Rattle.resolve.specs.Items as Items
 use Rattle.resolve.specs.Items.{Item, kindOf, newestFirst}
 use Rattle.resolve.specs.Resolve.{Rest, none, rest, opened, longer, lengthened, promised, emptied, renamed, added}
-use Rattle.resolve.specs.Slots.{restAt, splitAt, residualAt, item, itemAt, stateAt, emptiedMarks, tradedMarks, itemMarks, itemFloats, RowOnly}
+use Rattle.resolve.specs.Slots.{restAt, splitAt, residualAt, item, itemAt, resolvedAt, emptiedMarks, tradedMarks, itemMarks, itemFloats, RowOnly}
 use Rattle.resolve.proofs.Records.{newest-same, newest-more, MarksOf, FloatsOf, marks-same, marks-put, floats-same, floats-put2, floats-put4, floats-set, item-alike, rest-alike, other-event, other-item, other-rest, other-split, other-within}
 
 -- ---- a remainder that is written is read back
@@ -91,8 +91,8 @@ module _ (us : List ℕ) (g s k : ℕ) where
     emptied-split = put-here (putMark us (g + s) 0 0) (g + s) 3 k (omega (arith, put-size us (g + s) 0 0))
 
     pub emptied-state : (xs : List Float) (n i : ℕ) (t : Tally) → s < n → i ≤ g
-        → stateAt xs (emptiedMarks us g s k) g n i t ≡ emptied s k (stateAt xs us g n i t)
-    unfolding stateAt
+        → resolvedAt xs (emptiedMarks us g s k) g n i t ≡ emptied s k (resolvedAt xs us g n i t)
+    unfolding resolvedAt
     emptied-state xs n i t l h =
         let f = floats-same (g + s) xs in
         λ z. record {
@@ -109,8 +109,8 @@ module _ (us : List ℕ) (g s k : ℕ) where
 
 module _ (xs : List Float) (us : List ℕ) (g n s i : ℕ) (t : Tally) (l : s < n) (h : i ≤ g) (floats : 64 * (g + s) + 64 ≤ length xs) (marks : 32 * (g + s) + 32 ≤ length us) where
   pub lengthened-state : (m x : Mat2) → x ≡ mul2Of m (opened (restAt xs us g s))
-      → stateAt (putMatrix2Of xs (g + s) x) (putMark us (g + s) kindColumn oneItem) g n i t ≡ lengthened s m (stateAt xs us g n i t)
-  unfolding stateAt
+      → resolvedAt (putMatrix2Of xs (g + s) x) (putMark us (g + s) kindColumn oneItem) g n i t ≡ lengthened s m (resolvedAt xs us g n i t)
+  unfolding resolvedAt
   lengthened-state m x e =
       let ys = putMatrix2Of xs (g + s) x in
       let vs = putMark us (g + s) kindColumn oneItem in
@@ -130,8 +130,8 @@ module _ (xs : List Float) (us : List ℕ) (g n s i : ℕ) (t : Tally) (l : s < 
       put-rest : (x : Mat2) → restAt (putMatrix2Of xs (g + s) x) (putMark us (g + s) kindColumn oneItem) g s ≡ rest x
       put-rest x = rest-back xs us g s x floats marks
 
-  pub promised-state : (k : ℕ) → stateAt xs (putMark us (g + s) cColumn k) g n i t ≡ promised s k (stateAt xs us g n i t)
-  unfolding stateAt
+  pub promised-state : (k : ℕ) → resolvedAt xs (putMark us (g + s) cColumn k) g n i t ≡ promised s k (resolvedAt xs us g n i t)
+  unfolding resolvedAt
   promised-state k =
       let vs = putMark us (g + s) cColumn k in
       let f = floats-same (g + s) xs in
@@ -191,8 +191,8 @@ module _ (us : List ℕ) (a b : ℕ) where
     unfolding tradedMarks
     wire-other j na nb = put-record (putMark us a 5 (markAt us b 5)) b 5 (markAt us a 5) j nb ∙ put-record us a 5 (markAt us b 5) j na
 
-    pub renamed-state : (xs : List Float) (g n i : ℕ) (t : Tally) → a < n → b < n → stateAt xs (tradedMarks us a b) g n i t ≡ renamed a b (stateAt xs us g n i t)
-    unfolding stateAt
+    pub renamed-state : (xs : List Float) (g n i : ℕ) (t : Tally) → a < n → b < n → resolvedAt xs (tradedMarks us a b) g n i t ≡ renamed a b (resolvedAt xs us g n i t)
+    unfolding resolvedAt
     renamed-state xs g n i t la lb =
         let vs = tradedMarks us a b in
         λ z. record {
@@ -211,17 +211,17 @@ module _ (us : List ℕ) (a b : ℕ) where
 module _ (g n i : ℕ) (xs ys : List Float) (us vs : List ℕ) (f : FloatsOf i xs ys) (m : MarksOf i us vs) (h : i < g) where
   -- all of the state but the item
   parts : (new : List Item) (swaps tried : ℕ) (angled : Bool) (t t′ : Tally) → itemAt ys vs i ≡ new → t′ .swaps ≡ swaps → t′ .tried ≡ tried → t′ .angled ≡ angled
-      → stateAt ys vs g n (i + 1) t′
+      → resolvedAt ys vs g n (i + 1) t′
       ≡ record {
-        rests = stateAt xs us g n i t .rests;
-        splits = stateAt xs us g n i t .splits;
-        content = stateAt xs us g n i t .content;
-        items = new ++ stateAt xs us g n i t .items;
+        rests = resolvedAt xs us g n i t .rests;
+        splits = resolvedAt xs us g n i t .splits;
+        content = resolvedAt xs us g n i t .content;
+        items = new ++ resolvedAt xs us g n i t .items;
         swaps = swaps;
         tried = tried;
         angled = angled;
       }
-  unfolding stateAt
+  unfolding resolvedAt
   parts new swaps tried angled t t′ e es et ea = λ z. record {
     rests = listed-same none n (restAt xs us g) (restAt ys vs g) (λ s l. other-rest i xs ys us vs f m g s (λ e. omega arith)) z;
     splits = listed-same 0 n (splitAt us g) (splitAt vs g) (λ s l. other-split i xs ys us vs f m g s (λ e. omega arith)) z;
@@ -234,13 +234,13 @@ module _ (g n i : ℕ) (xs ys : List Float) (us vs : List ℕ) (f : FloatsOf i x
 
   -- the event has left an item, and its part of the counts
   pub own-added : (x : Item) (swaps tried : ℕ) (angled : Bool) (t t′ : Tally) → itemAt ys vs i ≡ x ∷ [] → t′ .swaps ≡ t .swaps + swaps → t′ .tried ≡ t .tried + tried
-      → t′ .angled ≡ (t .angled || angled) → stateAt ys vs g n (i + 1) t′ ≡ added x swaps tried angled (stateAt xs us g n i t)
-  unfolding stateAt
+      → t′ .angled ≡ (t .angled || angled) → resolvedAt ys vs g n (i + 1) t′ ≡ added x swaps tried angled (resolvedAt xs us g n i t)
+  unfolding resolvedAt
   own-added x swaps tried angled t t′ e es et ea = parts (x ∷ []) (t .swaps + swaps) (t .tried + tried) (t .angled || angled) t t′ e es et ea
 
   -- it has left none
-  pub own-none : (t : Tally) → itemAt ys vs i ≡ [] → stateAt ys vs g n (i + 1) t ≡ stateAt xs us g n i t
-  unfolding stateAt
+  pub own-none : (t : Tally) → itemAt ys vs i ≡ [] → resolvedAt ys vs g n (i + 1) t ≡ resolvedAt xs us g n i t
+  unfolding resolvedAt
   own-none t e = parts [] (t .swaps) (t .tried) (t .angled) t t e refl refl refl
 
   pub own-event : (j : ℕ) → i < j → eventAt ys vs j ≡ eventAt xs us j
@@ -311,8 +311,8 @@ module _ (xs : List Float) (i : ℕ) (c : Class2) where
 
 -- ---- scratch
 
-pub scratch-state : (row : ℕ) (xs ys : List Float) (us : List ℕ) (g n i : ℕ) (t : Tally) → 33 ≤ row → RowOnly row xs ys → stateAt ys us g n i t ≡ stateAt xs us g n i t
-unfolding stateAt
+pub scratch-state : (row : ℕ) (xs ys : List Float) (us : List ℕ) (g n i : ℕ) (t : Tally) → 33 ≤ row → RowOnly row xs ys → resolvedAt ys us g n i t ≡ resolvedAt xs us g n i t
+unfolding resolvedAt
 scratch-state row xs ys us g n i t h o = λ z. record {
   rests = listed-same none n (restAt xs us g) (restAt ys us g) (λ s l. rest-alike xs ys us us g s refl (λ q a b. at (g + s) q a (omega arith))) z;
   splits = listOf n (splitAt us g);

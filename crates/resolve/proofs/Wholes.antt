@@ -19,7 +19,7 @@ use Rattle.fuse.specs.Layout.{Within, eventAt, kinds, Passed}
 use Rattle.fuse.proofs.Listed.{listed-same}
 use Rattle.resolve.specs.declared.settle.Tally.{Tally}
 use Rattle.resolve.specs.Resolve.{resolved}
-use Rattle.resolve.specs.Slots.{stateAt, todo, fresh, AllDealt, Begun, Finished}
+use Rattle.resolve.specs.Slots.{resolvedAt, todo, fresh, AllDealt, Begun, Finished}
 use Rattle.resolve.specs.Whole.{resolvedOf, fusedOf, fuseOf, fusedAt, Whole}
 
 -- the newest first, turned round
@@ -47,12 +47,12 @@ module _ (relabel : Bool) (tol : Float) (xs xs₁ xs₂ ys : List Float) (us us�
       ∙ up-same (eventAt xs₂ us₂) (eventAt xs₂ us₃) 0 g (λ j a l. b .events j (omega arith))
       ∙ sym (down-reverse (eventAt xs₂ us₂) g) ∙ ap reverse (q .pass .list ∙ ap compressed (p .pass .list))
 
-  state : stateAt ys us₄ g n g t ≡ resolvedOf relabel tol n swaps (downTo (eventAt xs us) g)
+  state : resolvedAt ys us₄ g n g t ≡ resolvedOf relabel tol n swaps (downTo (eventAt xs us) g)
   unfolding resolvedOf
   state = d .state ∙ ap₂ (resolved relabel tol) events (b .state swaps)
 
-  read : fusedAt ys vs g n t ≡ fusedOf n (stateAt ys us₄ g n g t)
-  unfolding fusedAt stateAt
+  read : fusedAt ys vs g n t ≡ fusedOf n (resolvedAt ys us₄ g n g t)
+  unfolding fusedAt resolvedAt
   read = λ z. record {
     items = f .items z;
     content = listed-same 0 n (λ s. markAt us₄ s contentColumn) (λ s. markAt vs s contentColumn) (λ s l. f .content s) z;

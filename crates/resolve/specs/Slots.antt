@@ -51,8 +51,8 @@ itemAt xs us i =
 -- ---- the state
 
 -- the state after i events
-unfoldable pub stateAt : List Float → List ℕ → ℕ → ℕ → ℕ → Tally → Resolved
-stateAt xs us g n i t = record {
+unfoldable pub resolvedAt : List Float → List ℕ → ℕ → ℕ → ℕ → Tally → Resolved
+resolvedAt xs us g n i t = record {
   rests = listOf n (restAt xs us g);
   splits = listOf n (splitAt us g);
   content = listOf n (λ s. markAt us s contentColumn);
@@ -116,7 +116,7 @@ pub record Prefixes (xs ys : List Float) (us : List ℕ) (k g s row r : ℕ) : T
 pub record Moved (f : Resolved → Resolved) (xs ys : List Float) (us vs : List ℕ) (g n i : ℕ) (t t′ : Tally) : Type 0 where
   pub size : length ys ≡ length xs
   pub marks : length vs ≡ length us
-  pub state : stateAt ys vs g n (i + 1) t′ ≡ f (stateAt xs us g n i t)
+  pub state : resolvedAt ys vs g n (i + 1) t′ ≡ f (resolvedAt xs us g n i t)
   pub later : (j : ℕ) → i < j → j < g → eventAt ys vs j ≡ eventAt xs us j
   pub lab : (q : ℕ) → markAt vs q labColumn ≡ markAt us q labColumn
   pub within : Within vs (i + 1) g n
@@ -152,13 +152,13 @@ fresh swaps = record { swaps = swaps; tried = 0; angled = false }
 pub record AllDealt (relabel : Bool) (tol : Float) (xs ys : List Float) (us vs : List ℕ) (g n : ℕ) (t t′ : Tally) : Type 0 where
   pub size : length ys ≡ length xs
   pub marks : length vs ≡ length us
-  pub state : stateAt ys vs g n g t′ ≡ resolved relabel tol (todo xs us 0 g) (stateAt xs us g n 0 t)
+  pub state : resolvedAt ys vs g n g t′ ≡ resolved relabel tol (todo xs us 0 g) (resolvedAt xs us g n 0 t)
   pub lab : (q : ℕ) → markAt vs q labColumn ≡ markAt us q labColumn
 
 -- the slots are as before the first event, and the events are as they were
 pub record Begun (xs : List Float) (us vs : List ℕ) (g n : ℕ) : Type 0 where
   pub size : length vs ≡ length us
-  pub state : (swaps : ℕ) → stateAt xs vs g n 0 (fresh swaps) ≡ startOf n swaps
+  pub state : (swaps : ℕ) → resolvedAt xs vs g n 0 (fresh swaps) ≡ startOf n swaps
   pub events : (j : ℕ) → j < g → eventAt xs vs j ≡ eventAt xs us j
   pub lab : (q : ℕ) → markAt vs q labColumn ≡ markAt us q labColumn
   pub within : Within us 0 g n → Within vs 0 g n
@@ -166,6 +166,6 @@ pub record Begun (xs : List Float) (us vs : List ℕ) (g n : ℕ) : Type 0 where
 -- the remainders have become items, and the rest of the state is as it was
 pub record Finished (xs : List Float) (us vs : List ℕ) (g n : ℕ) (t : Tally) : Type 0 where
   pub size : length vs ≡ length us
-  pub items : newestFirst (itemAt xs vs) (g + n) ≡ withRests (stateAt xs us g n g t) n
+  pub items : newestFirst (itemAt xs vs) (g + n) ≡ withRests (resolvedAt xs us g n g t) n
   pub content : (s : ℕ) → markAt vs s contentColumn ≡ markAt us s contentColumn
   pub lab : (q : ℕ) → markAt vs q labColumn ≡ markAt us q labColumn

@@ -16,7 +16,7 @@ use Rattle.real.specs.declared.maps.Map4.{Map4}
 use Rattle.signs.specs.Paulis.{sgn, Pauli, pI, pX, pY, pZ, pr, ph}
 use Rattle.signs.specs.Blocks.{One, Two, _·₁_, _·_, front₁, front, Block₁, Block}
 use Rattle.signs.specs.Majoranas.{Four, c0, c1, c2, c3, num₁, num, Row, Sends₁, Sends}
-use Rattle.signs.specs.Circuits.{unitRow, Maps₁, Maps, Item, one, two}
+use Rattle.signs.specs.Circuits.{unitRow, Maps₁, Maps, BlockOp, one, two}
 use Rattle.signs.proofs.Tables.{all2, all2→, all4, all4→}
 use Rattle.signs.proofs.Permutations.{row, sameOne, same-one, sameTwo, same-two}
 
@@ -160,13 +160,13 @@ r-sends c2 = refl
 r-sends c3 = refl
 
 -- X on mode k
-unfoldable pub X : ℕ → Item
+unfoldable pub X : ℕ → BlockOp
 X k = one k xBlock₁ (map₁ xRows₁) (maps₁ xBlock₁ xRows₁ x-sends₁)
 
 -- X on mode k, as an operation on the modes k and k + 1
-unfoldable pub XI : ℕ → Item
+unfoldable pub XI : ℕ → BlockOp
 XI k = two k xBlock (map xRows) (maps xBlock xRows x-sends)
 
 -- the rotation of the modes k and k + 1
-unfoldable pub R : ℕ → Item
+unfoldable pub R : ℕ → BlockOp
 R k = two k rBlock (map rRows) (maps rBlock rRows r-sends)

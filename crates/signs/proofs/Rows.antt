@@ -14,40 +14,40 @@ use Rattle.state.specs.Calls.{zOf}
 use Rattle.state.specs.Operation.{effect, Fits}
 use Rattle.queries.specs.Products.{productOf}
 use Rattle.signs.specs.Paulis.{Value, nought, plus, minus, float, phases, still, expectation}
-use Rattle.signs.specs.Majoranas.{gamma, paired, zs, Modes}
-use Rattle.signs.specs.Circuits.{Item, interaction, pulled, Within}
-use Rattle.signs.specs.Signs.{Engine, ran}
+use Rattle.signs.specs.Majoranas.{gamma, paired, zs, DistinctModes}
+use Rattle.signs.specs.Circuits.{BlockOp, interaction, pulled, Within}
+use Rattle.signs.specs.Signs.{Engine, runBy}
 use Rattle.signs.proofs.Signs.{signs}
 use Rattle.signs.proofs.Gates.{X, XI, R, xBlock₁, xBlock, rBlock, blockOf₁, blockOf}
 
 -- ---- the circuits
 
-abbrev pub between : List Item
+abbrev pub between : List BlockOp
 between = R 1 ∷ XI 0 ∷ R 1 ∷ []
 
-abbrev pub inFront : List Item
+abbrev pub inFront : List BlockOp
 inFront = XI 0 ∷ R 1 ∷ R 1 ∷ []
 
-abbrev pub behind : List Item
+abbrev pub behind : List BlockOp
 behind = R 1 ∷ R 1 ∷ XI 0 ∷ []
 
-abbrev pub twice : List Item
+abbrev pub twice : List BlockOp
 twice = R 1 ∷ XI 0 ∷ XI 0 ∷ R 1 ∷ []
 
 -- X on mode 0 alone, and on mode 1 alone; an interaction is passed over
-abbrev pub alone0 : List Item
+abbrev pub alone0 : List BlockOp
 alone0 = R 1 ∷ X 0 ∷ R 1 ∷ []
 
-abbrev pub alone1 : List Item
+abbrev pub alone1 : List BlockOp
 alone1 = R 1 ∷ interaction +1 +0 +1 (record { re = +1; im = +0 }) ∷ X 1 ∷ R 1 ∷ []
 
 -- on the modes 0 and 1, with X on mode 1
-abbrev pub lower : List Item
+abbrev pub lower : List BlockOp
 lower = R 0 ∷ X 1 ∷ R 0 ∷ []
 
 -- ---- what the strings say of Z of mode k, on three modes
 
-abbrev pub Says : List Item → ℕ → Value → Type 0
+abbrev pub Says : List BlockOp → ℕ → Value → Type 0
 Says xs k v = expectation 3 (pulled xs (zs (k ∷ []))) ≡ v
 
 pub say : Says between 1 minus × Says inFront 1 minus × Says behind 1 minus × Says twice 1 minus
@@ -58,10 +58,10 @@ say = (refl, refl, refl, refl, refl, refl, refl, refl)
 -- ---- so does the engine
 
 -- the engine e answers v for Z of mode k
-abbrev pub Answers : Engine → List Item → ℕ → Value → Type 0
-Answers e xs k v = nz (zOf (get (ran e xs vacuum)) k) ≡ float v
+abbrev pub Answers : Engine → List BlockOp → ℕ → Value → Type 0
+Answers e xs k v = nz (zOf (get (runBy e xs vacuum)) k) ≡ float v
 
-answer : (xs : List Item) (k : ℕ) (v : Value) → Within 3 xs → k < 3 → Says xs k v → Answers effect xs k v
+answer : (xs : List BlockOp) (k : ℕ) (v : Value) → Within 3 xs → k < 3 → Says xs k v → Answers effect xs k v
 answer xs k v within l e = signs 3 xs within .z k l ∙ ap float e
 
 -- all modes are below three
@@ -95,16 +95,16 @@ rows =
 -- ---- a product and an entry: after one rotation neither Z of mode 1 nor Z of mode 2 has a value, and their product is 1; with X on mode 1 behind
 -- it the product is -1
 
-abbrev rotated : List Item
+abbrev rotated : List BlockOp
 rotated = R 1 ∷ []
 
-abbrev crossed : List Item
+abbrev crossed : List BlockOp
 crossed = R 1 ∷ X 1 ∷ []
 
 abbrev pair : List ℕ
 pair = 1 ∷ 2 ∷ []
 
-modes : Modes 3 pair
+modes : DistinctModes 3 pair
 modes = record { below = below; different = different }
   where
     below : (i : ℕ) → i < 2 → getD pair i 0 < 3
@@ -125,8 +125,8 @@ say-product : (expectation 3 (pulled rotated (zs pair)) ≡ plus) × (expectatio
 unfolding expectation still pulled X R xBlock₁ rBlock blockOf₁ blockOf xor
 say-product = (refl, refl)
 
-abbrev product : List Item → Value → Type 0
-product xs v = nz (productOf (get (ran effect xs vacuum)) pair) ≡ float v
+abbrev product : List BlockOp → Value → Type 0
+product xs v = nz (productOf (get (runBy effect xs vacuum)) pair) ≡ float v
 
 pub products : product rotated plus × product crossed minus
 unfolding Fits R X
@@ -139,6 +139,6 @@ say-entry : expectation 3 (pulled rotated (paired 3 (gamma 2) (gamma 4))) ≡ pl
 unfolding expectation still phases pulled R rBlock blockOf xor
 say-entry = refl
 
-pub entry : nz (get (ran effect rotated vacuum) 2 4) ≡ +1
+pub entry : nz (get (runBy effect rotated vacuum) 2 4) ≡ +1
 unfolding Fits R
 entry = signs 3 rotated (lit< tt, tt) .covariance 2 4 (lit< tt) (lit< tt) ∙ ap float say-entry

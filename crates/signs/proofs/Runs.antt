@@ -21,8 +21,8 @@ use Rattle.state.proofs.Stored.{stored-is}
 use Rattle.signs.specs.Paulis.{sgn, Str, times, signed, mul, identity}
 use Rattle.signs.specs.Blocks.{Block₁, Block, on₁, on}
 use Rattle.signs.specs.Majoranas.{gamma, paired, Four, c0, c1, c2, c3, num₁, num}
-use Rattle.signs.specs.Circuits.{Maps₁, Maps, Item, one, two, interaction, operation, acts, pulled, Within}
-use Rattle.signs.specs.Signs.{ran, appliedAll}
+use Rattle.signs.specs.Circuits.{Maps₁, Maps, BlockOp, one, two, interaction, operation, acts, pulled, Within}
+use Rattle.signs.specs.Signs.{runBy, appliedAll}
 use Rattle.signs.proofs.Strings.{signed-signed, on₁-times, on-times, on₁-mul, on-mul}
 use Rattle.signs.proofs.Permutations.{odd₁, odd as odd₄, distinct₁, distinct-rows}
 use Rattle.signs.proofs.JordanWigner.{identity₁, identity₂, later₁, later, earlier₁, earlier, local₁, local}
@@ -104,39 +104,39 @@ moves-two k g q h = record {
 
 -- ---- every list
 
-pub acts-times : (x : Item) (c : Phase) (s : Str) → acts x (times c s) ≡ times c (acts x s)
+pub acts-times : (x : BlockOp) (c : Phase) (s : Str) → acts x (times c s) ≡ times c (acts x s)
 acts-times (one k g q h) c s = on₁-times g k c s
 acts-times (two k g q h) c s = on-times g k c s
 acts-times (interaction mode block second unit) c s = refl
 
-pub pulled-times : (xs : List Item) (c : Phase) (s : Str) → pulled xs (times c s) ≡ times c (pulled xs s)
+pub pulled-times : (xs : List BlockOp) (c : Phase) (s : Str) → pulled xs (times c s) ≡ times c (pulled xs s)
 unfolding pulled
 pulled-times [] c s = refl
 pulled-times (x ∷ xs) c s = ap (acts x) (pulled-times xs c s) ∙ acts-times x c (pulled xs s)
 
-acts-mul : (n : ℕ) (x : Item) → Fits n (operation x) → (s t : Str) → acts x (mul n s t) ≡ mul n (acts x s) (acts x t)
+acts-mul : (n : ℕ) (x : BlockOp) → Fits n (operation x) → (s t : Str) → acts x (mul n s t) ≡ mul n (acts x s) (acts x t)
 unfolding Fits
 acts-mul n (one k g q h) f s t = on₁-mul n k s t g f
 acts-mul n (two k g q h) f s t = on-mul n k s t g f
 acts-mul n (interaction mode block second unit) f s t = refl
 
-pub pulled-mul : (n : ℕ) (xs : List Item) → Within n xs → (s t : Str) → pulled xs (mul n s t) ≡ mul n (pulled xs s) (pulled xs t)
+pub pulled-mul : (n : ℕ) (xs : List BlockOp) → Within n xs → (s t : Str) → pulled xs (mul n s t) ≡ mul n (pulled xs s) (pulled xs t)
 unfolding pulled
 pulled-mul n [] w s t = refl
 pulled-mul n (x ∷ xs) w s t = ap (acts x) (pulled-mul n xs (w .1) s t) ∙ acts-mul n x (w .0) (pulled xs s) (pulled xs t)
 
-pub pulled-paired : (n : ℕ) (xs : List Item) → Within n xs → (s t : Str) → pulled xs (paired n s t) ≡ paired n (pulled xs s) (pulled xs t)
+pub pulled-paired : (n : ℕ) (xs : List BlockOp) → Within n xs → (s t : Str) → pulled xs (paired n s t) ≡ paired n (pulled xs s) (pulled xs t)
 pulled-paired n xs w s t = pulled-times xs i3 (mul n s t) ∙ ap (times i3) (pulled-mul n xs w s t)
 
 -- a Majorana operator is pulled back to one, with a sign
-acts-gamma : (n : ℕ) (x : Item) → Fits n (operation x) → (a : ℕ) → a < 2 * n
+acts-gamma : (n : ℕ) (x : BlockOp) → Fits n (operation x) → (a : ℕ) → a < 2 * n
     → (b : Bool) × (c : ℕ) × (c < 2 * n) × (acts x (gamma a) ≡ signed b (gamma c))
 unfolding Fits
 acts-gamma n (one k g q h) f a l = sent (local2 (2 * k) q) (on₁ g k) (moves-one k g q h) (2 * n) a (omega arith) l
 acts-gamma n (two k g q h) f a l = sent (local4 (2 * k) q) (on g k) (moves-two k g q h) (2 * n) a (omega arith) l
 acts-gamma n (interaction mode block second unit) f a l = (false, a, l, refl)
 
-pub pulled-gamma : (n : ℕ) (xs : List Item) → Within n xs → (a : ℕ) → a < 2 * n
+pub pulled-gamma : (n : ℕ) (xs : List BlockOp) → Within n xs → (a : ℕ) → a < 2 * n
     → (b : Bool) × (c : ℕ) × (c < 2 * n) × (pulled xs (gamma a) ≡ signed b (gamma c))
 unfolding pulled
 pulled-gamma n [] w a l = (false, a, l, refl)
@@ -151,39 +151,39 @@ pulled-gamma n (x ∷ xs) w a l =
     )
 
 -- the identity stays
-acts-identity : (x : Item) → acts x identity ≡ identity
+acts-identity : (x : BlockOp) → acts x identity ≡ identity
 acts-identity (one k g q h) = identity₁ g k
 acts-identity (two k g q h) = identity₂ g k
 acts-identity (interaction mode block second unit) = refl
 
-pub pulled-identity : (xs : List Item) → pulled xs identity ≡ identity
+pub pulled-identity : (xs : List BlockOp) → pulled xs identity ≡ identity
 unfolding pulled
 pulled-identity [] = refl
 pulled-identity (x ∷ xs) = ap (acts x) (pulled-identity xs) ∙ acts-identity x
 
 -- ---- the covariance after one operation, after a list, and in a slice
 
-effect-holds : (n : ℕ) (x : Item) → Fits n (operation x) → (F : Str → Str) → Through F → (t : State)
+effect-holds : (n : ℕ) (x : BlockOp) → Fits n (operation x) → (F : Str → Str) → Through F → (t : State)
     → Holds n t (λ a. F (gamma a)) → Holds n (effect (operation x) t) (λ a. F (acts x (gamma a)))
 unfolding effect Fits
 effect-holds n (one k g q m) f F through t h = step-holds (local2 (2 * k) q) (on₁ g k) (moves-one k g q m) n (omega arith) F through t h
 effect-holds n (two k g q m) f F through t h = step-holds (local4 (2 * k) q) (on g k) (moves-two k g q m) n (omega arith) F through t h
 effect-holds n (interaction mode block second unit) f F through t h = h
 
-acts-through : (x : Item) (F : Str → Str) → Through F → Through (λ s. F (acts x s))
+acts-through : (x : BlockOp) (F : Str → Str) → Through F → Through (λ s. F (acts x s))
 acts-through x F through b s = ap F (acts-times x (sgn b) s) ∙ through b (acts x s)
 
 vacuum-holds : (n : ℕ) → Holds n vacuum gamma
 vacuum-holds n = record { turned = λ i. false; signs = λ i l. refl; entries = vacuum-is n }
 
-ran-holds : (n : ℕ) (xs : List Item) → Within n xs → (F : Str → Str) → Through F → (t : State)
-    → Holds n t (λ a. F (gamma a)) → Holds n (ran effect xs t) (λ a. F (pulled xs (gamma a)))
-unfolding ran pulled
+ran-holds : (n : ℕ) (xs : List BlockOp) → Within n xs → (F : Str → Str) → Through F → (t : State)
+    → Holds n t (λ a. F (gamma a)) → Holds n (runBy effect xs t) (λ a. F (pulled xs (gamma a)))
+unfolding runBy pulled
 ran-holds n [] w F through t h = h
 ran-holds n (x ∷ xs) w F through t h =
     ran-holds n xs (w .1) (λ s. F (acts x s)) (acts-through x F through) (effect (operation x) t) (effect-holds n x (w .0) F through t h)
 
-pub run-holds : (n : ℕ) (xs : List Item) → Within n xs → Holds n (ran effect xs vacuum) (λ a. pulled xs (gamma a))
+pub run-holds : (n : ℕ) (xs : List BlockOp) → Within n xs → Holds n (runBy effect xs vacuum) (λ a. pulled xs (gamma a))
 run-holds n xs w = ran-holds n xs w (λ s. s) (λ b s. refl) vacuum (vacuum-holds n)
 
 -- what is stored is read back
@@ -196,7 +196,7 @@ stored-holds n t f s room h =
       entries = λ r c hr hc. ap nz (w .entry r c hr hc) ∙ h .entries r c hr hc;
     }
 
-applied-holds : (n : ℕ) (xs : List Item) → Within n xs → (F : Str → Str) → Through F → (s : List Float) → statePlaces (dimOf n) ≤ length s
+applied-holds : (n : ℕ) (xs : List BlockOp) → Within n xs → (F : Str → Str) → Through F → (s : List Float) → statePlaces (dimOf n) ≤ length s
     → Holds n (stateAt (dimOf n) s) (λ a. F (gamma a)) → Holds n (stateAt (dimOf n) (appliedAll n xs s)) (λ a. F (pulled xs (gamma a)))
 unfolding appliedAll pulled
 applied-holds n [] w F through s room h = h
@@ -206,7 +206,7 @@ applied-holds n (x ∷ xs) w F through s room h =
     applied-holds n xs (w .1) (λ s. F (acts x s)) (acts-through x F through) (stored (dimOf n) t s) (rw long room)
     (stored-holds n t (λ a. F (acts x (gamma a))) s room (effect-holds n x (w .0) F through (stateAt (dimOf n) s) h))
 
-pub slice-holds : (n : ℕ) (xs : List Item) (s : List Float) → Within n xs → statePlaces (dimOf n) ≤ length s
+pub slice-holds : (n : ℕ) (xs : List BlockOp) (s : List Float) → Within n xs → statePlaces (dimOf n) ≤ length s
     → Holds n (stateAt (dimOf n) (appliedAll n xs (stored (dimOf n) vacuum s))) (λ a. pulled xs (gamma a))
 slice-holds n xs s w room =
     let long = stored-is (dimOf n) s vacuum (stored (dimOf n) vacuum s) room refl .long in

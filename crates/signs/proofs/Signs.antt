@@ -21,14 +21,14 @@ use Rattle.state.proofs.Stored.{stored-is}
 use Rattle.state.proofs.Questions.{asked}
 use Rattle.signs.specs.Paulis.{float, expectation}
 use Rattle.signs.specs.Majoranas.{gamma, paired, zs}
-use Rattle.signs.specs.Circuits.{Item, operation, pulled, Within}
-use Rattle.signs.specs.Signs.{ran, appliedAll, Right, AlwaysRight, RightInSlices, StandIn, called, RightByCalls}
+use Rattle.signs.specs.Circuits.{BlockOp, operation, pulled, Within}
+use Rattle.signs.specs.Signs.{runBy, appliedAll, Right, AlwaysRight, RightInSlices, StandIn, called, RightByCalls}
 use Rattle.signs.proofs.Runs.{pulled-paired, run-holds, slice-holds}
 use Rattle.signs.proofs.Steps.{Holds, get-is}
 use Rattle.signs.proofs.ZProducts.{z-product}
 use Rattle.signs.proofs.Parities.{z-paired}
 
-reads : (n : ℕ) (xs : List Item) (t : State) → Within n xs → Holds n t (λ a. pulled xs (gamma a)) → Right n xs t
+reads : (n : ℕ) (xs : List BlockOp) (t : State) → Within n xs → Holds n t (λ a. pulled xs (gamma a)) → Right n xs t
 reads n xs t within holds = record { covariance = covariance; z = z; product = λ js modes. z-product n xs within js modes t holds }
   where
     covariance : (r c : ℕ) → r < 2 * n → c < 2 * n → nz (get t r c) ≡ float (expectation n (pulled xs (paired n (gamma r) (gamma c))))
@@ -40,7 +40,7 @@ reads n xs t within holds = record { covariance = covariance; z = z; product = �
     z k l = covariance (2 * k) (2 * k + 1) (omega arith) (omega arith) ∙ ap (λ s. float (expectation n (pulled xs s))) (z-paired n k l)
 
 pub signs : AlwaysRight effect
-signs n xs within = reads n xs (ran effect xs vacuum) within (run-holds n xs within)
+signs n xs within = reads n xs (runBy effect xs vacuum) within (run-holds n xs within)
 
 pub signs-in-slices : RightInSlices
 signs-in-slices n xs s within room =
@@ -57,12 +57,12 @@ module _ (n : ℕ) (modes : List ℕ) where
   stored-ok : (t : State) (s : List Float) → stateOk n s modes ≡ true → stateOk n (stored (dimOf n) t s) modes ≡ true
   stored-ok t s ok = still-ok (stored (dimOf n) t s) s (stored-is (dimOf n) s t (stored (dimOf n) t s) (asked n s modes ok .room) refl .long) ok
 
-  call-applies : (x : Item) (op s : List Float) → decodeOf n op ≡ Good (operation x) → stateOk n s modes ≡ true
+  call-applies : (x : BlockOp) (op s : List Float) → decodeOf n op ≡ Good (operation x) → stateOk n s modes ≡ true
       → applyState n s modes op ≡ applied n (operation x) s
   unfolding applyState decodedState
   call-applies x op s e ok = rw ok (ap (decodedState n s) e)
 
-  calls-apply : (xs : List Item) (ops : List (List Float)) (s : List Float) → StandIn n xs ops → stateOk n s modes ≡ true
+  calls-apply : (xs : List BlockOp) (ops : List (List Float)) (s : List Float) → StandIn n xs ops → stateOk n s modes ≡ true
       → called n modes ops s ≡ appliedAll n xs s
   unfolding called appliedAll
   calls-apply [] [] s h ok = refl

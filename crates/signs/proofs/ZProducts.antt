@@ -15,8 +15,8 @@ use Rattle.state.specs.State.{State, get}
 use Rattle.pfaffian.specs.Pfaffian.{pf, pfaffianOf}
 use Rattle.queries.specs.Products.{indexOf, restricted, productOf}
 use Rattle.signs.specs.Paulis.{Str, times, signed, mul, identity, plus, float, expectation}
-use Rattle.signs.specs.Majoranas.{gamma, zs, Modes}
-use Rattle.signs.specs.Circuits.{Item, pulled, Within}
+use Rattle.signs.specs.Majoranas.{gamma, zs, DistinctModes}
+use Rattle.signs.specs.Circuits.{BlockOp, pulled, Within}
 use Rattle.signs.proofs.Runs.{pulled-times, pulled-mul, pulled-gamma, pulled-identity}
 use Rattle.signs.proofs.Pairs.{Turns, gamma-turns, signed-turns}
 use Rattle.signs.proofs.Steps.{Holds, get-is}
@@ -24,7 +24,7 @@ use Rattle.signs.proofs.Products.{prod, Apart, minusI}
 use Rattle.signs.proofs.Pfaffians.{dbl, Matching, pf-worth}
 use Rattle.signs.proofs.Parities.{gamma-anti, zs-product}
 
-module _ (n : ℕ) (xs : List Item) (within : Within n xs) (js : List ℕ) (modes : Modes n js) where
+module _ (n : ℕ) (xs : List BlockOp) (within : Within n xs) (js : List ℕ) (modes : DistinctModes n js) where
   operator : ℕ → Str
   operator i = pulled xs (gamma (indexOf js i))
 

@@ -35,28 +35,28 @@ pub record Maps (g : Block) (q : Map4) : Type 0 where
   pub entries : (c : Four) (j : ℕ) → j < 4 → nz (entry4 q (num c) j) ≡ nz (unitRow num (rows c) j)
 
 -- an operation of the engine with the block that it comes from: on mode k, on the modes k and k + 1; or an interaction, which the engine passes over
-pub data Item : Type 0 where
-  one : (k : ℕ) (g : Block₁) (q : Map2) → Maps₁ g q → Item
-  two : (k : ℕ) (g : Block) (q : Map4) → Maps g q → Item
-  interaction : (mode block second : Float) (unit : Angle) → Item
+pub data BlockOp : Type 0 where
+  one : (k : ℕ) (g : Block₁) (q : Map2) → Maps₁ g q → BlockOp
+  two : (k : ℕ) (g : Block) (q : Map4) → Maps g q → BlockOp
+  interaction : (mode block second : Float) (unit : Angle) → BlockOp
 
 -- to the engine
-abbrev pub operation : Item → Operation
+abbrev pub operation : BlockOp → Operation
 operation (one k g q h) = One k q
 operation (two k g q h) = Two k q
 operation (interaction mode block second unit) = Interaction mode block second unit
 
 -- to an operator s: U* s U
-abbrev pub acts : Item → Str → Str
+abbrev pub acts : BlockOp → Str → Str
 acts (one k g q h) s = on₁ g k s
 acts (two k g q h) s = on g k s
 acts (interaction mode block second unit) s = s
 
 -- an operator after the list, as an operator before it: the last block comes first
-unfoldable pub pulled : List Item → Str → Str
+unfoldable pub pulled : List BlockOp → Str → Str
 pulled [] s = s
 pulled (x ∷ xs) s = acts x (pulled xs s)
 
 -- all modes are below n (question 17)
-abbrev pub Within : ℕ → List Item → Type 0
+abbrev pub Within : ℕ → List BlockOp → Type 0
 Within n = All (λ x. Fits n (operation x))

@@ -35,7 +35,7 @@ abbrev pub zs : List ℕ → Str
 zs js = record { phase = i0; at = λ w. cond (listed js w) pZ pI }
 
 -- the listed modes are below n, and no two are equal
-pub record Modes (n : ℕ) (js : List ℕ) : Type 0 where
+pub record DistinctModes (n : ℕ) (js : List ℕ) : Type 0 where
   pub below : (i : ℕ) → i < length js → getD js i 0 < n
   pub different : (i j : ℕ) → i < length js → j < length js → getD js i 0 ≡ getD js j 0 → i ≡ j
 

@@ -15,7 +15,7 @@ use Rattle.laws.specs.Tests.{allBelow}
 use Rattle.laws.specs.Bounds.{maxQubits, opPlaces}
 use Rattle.real.specs.declared.maps.Map2.{Map2}
 use Rattle.real.specs.declared.maps.Map4.{Map4}
-use Rattle.state.specs.Operation.{isWhole, modeOf, placeOf, map2Of, map4Of, interactionOf, kindIs, oneOf, twoOf, decodeOf, Fits}
+use Rattle.state.specs.Operation.{isWhole, modeOf, placeOf, map2Of, map4Of, interactionAt, kindIs, oneOf, twoOf, decodeOf, Fits}
 use Rattle.state.specs.declared.operation.Operation.{Operation}
 use Rattle.state.specs.declared.operation.Operation.the-variants.{One, Two}
 use Rattle.state.specs.declared.operation.Mode.{Mode}
@@ -57,9 +57,9 @@ unfolding twoOf Fits
 two-fits n s o (At k) h e = let u : o ≡ Two k (map4Of s) = cc in rw u (h k refl)
 two-fits n s o Nowhere h e = absurd (bad o e)
 
-any-fits : (n : ℕ) (s : List Float) (o : Operation) → Good (interactionOf s) ≡ Good o → Fits n o
+any-fits : (n : ℕ) (s : List Float) (o : Operation) → Good (interactionAt s) ≡ Good o → Fits n o
 unfolding Fits
-any-fits n s o e = let u : o ≡ interactionOf s = cc in rw u tt
+any-fits n s o e = let u : o ≡ interactionAt s = cc in rw u tt
 
 pub decode-fits : (n : ℕ) (s : List Float) (o : Operation) → decodeOf n s ≡ Good o → Fits n o
 unfolding decodeOf
@@ -68,7 +68,7 @@ decode-fits n s o e =
   where
     by : (t k₁ k₂ z : Bool) → eqb n 0 ≡ z → (k₃ : Bool)
         → cond t Bad (cond k₁ (oneOf s (modeOf (placeOf s 1) n)) (cond k₂ (cond z Bad (twoOf s (modeOf (placeOf s 1) (n - 1)))) (cond k₃ (Good
-        (interactionOf s)) Bad))) ≡ Good o
+        (interactionAt s)) Bad))) ≡ Good o
         → Fits n o
     by true k₁ k₂ z h k₃ e = absurd (bad o e)
     by false true k₂ z h k₃ e = one-fits n s o (modeOf (placeOf s 1) n) (λ k g. mode-below (placeOf s 1) n k g) e

@@ -21,21 +21,21 @@ use Rattle.laws.proofs.Matrix.{place-in, matrix-is, at-set-same, at-set-other, 
 use Rattle.laws.proofs.Loops.{more, up-left}
 use Rattle.state.specs.Bounds.{statePlaces}
 use Rattle.state.specs.State.{vacuum, stored}
-use Rattle.state.specs.Parts.{paired}
+use Rattle.state.specs.Parts.{pairUpOf}
 use Rattle.state.proofs.Stored.{is-stored}
 
 -- ---- an entry of a pair, and any other
 
 module _ (f : Mat) where
-  pair-first : (r c : ℕ) → r % 2 ≡ 0 → c ≡ r + 1 → paired f r c ≡ +1
+  pair-first : (r c : ℕ) → r % 2 ≡ 0 → c ≡ r + 1 → pairUpOf f r c ≡ +1
   pair-first r c h e = rw (eq-eqb (r % 2) 0 h, eq-eqb c (r + 1) e)
 
-  pair-second : (r c : ℕ) → c % 2 ≡ 0 → r ≡ c + 1 → paired f r c ≡ neg +1
+  pair-second : (r c : ℕ) → c % 2 ≡ 0 → r ≡ c + 1 → pairUpOf f r c ≡ neg +1
   pair-second r c h e =
       let n : r % 2 ≢ 0 = λ z. omega arith in
       rw (ne-eqb (r % 2) 0 n, eq-eqb (c % 2) 0 h, eq-eqb r (c + 1) e)
 
-  pair-none : (r c : ℕ) → (r % 2 ≡ 0 → c ≢ r + 1) → (c % 2 ≡ 0 → r ≢ c + 1) → paired f r c ≡ f r c
+  pair-none : (r c : ℕ) → (r % 2 ≡ 0 → c ≢ r + 1) → (c % 2 ≡ 0 → r ≢ c + 1) → pairUpOf f r c ≡ f r c
   pair-none r c h g =
       rw (test r c h, test c r g)
     where
@@ -53,7 +53,7 @@ abbrev pub byMode : ℕ → ℕ → ℕ
 byMode r c = r / 2
 
 abbrev pub Paired : ℕ → List Float → ℕ → List Float → Type 0
-Paired dim m₀ n m = Is dim m₀ (upTo byMode n (paired (at dim m₀)) (at dim m₀)) m
+Paired dim m₀ n m = Is dim m₀ (upTo byMode n (pairUpOf (at dim m₀)) (at dim m₀)) m
 
 pub pair-more : (dim n : ℕ) (m₀ m m₁ m₂ : List Float) → 2 * n + 1 < dim → dim * dim ≤ length m₀ → Paired dim m₀ n m
     → m₁ ≡ set m (2 * n * dim + (2 * n + 1)) +1 → m₂ ≡ set m₁ ((2 * n + 1) * dim + 2 * n) (neg +1) → Paired dim m₀ (n + 1) m₂
@@ -91,10 +91,10 @@ pair-more dim n m₀ m m₁ m₂ h room w e₁ e₂ = more byMode _ _ dim n m₀
     old : (r c : ℕ) → r < dim → c < dim → r / 2 ≡ n → at dim m r c ≡ at dim m₀ r c
     old r c x g k = w .each r c x g ∙ up-left byMode _ _ n r c (le-of-eq (sym k))
 
-    own : (r c : ℕ) → r < dim → c < dim → r / 2 ≡ n → at dim m₂ r c ≡ paired (at dim m₀) r c
+    own : (r c : ℕ) → r < dim → c < dim → r / 2 ≡ n → at dim m₂ r c ≡ pairUpOf (at dim m₀) r c
     own r c x g k = by (eq-or-ne r (2 * n)) (eq-or-ne c (2 * n)) (eq-or-ne c (2 * n + 1))
       where
-        by : (r ≡ 2 * n) ⊎ (r ≢ 2 * n) → (c ≡ 2 * n) ⊎ (c ≢ 2 * n) → (c ≡ 2 * n + 1) ⊎ (c ≢ 2 * n + 1) → at dim m₂ r c ≡ paired (at dim m₀) r c
+        by : (r ≡ 2 * n) ⊎ (r ≢ 2 * n) → (c ≡ 2 * n) ⊎ (c ≢ 2 * n) → (c ≡ 2 * n + 1) ⊎ (c ≢ 2 * n + 1) → at dim m₂ r c ≡ pairUpOf (at dim m₀) r c
         by (inl p) _ (inl q) = (λ t. at dim m₂ (p t) (q t)) ∙ first ∙ sym (pair-first (at dim m₀) r c (omega arith) (omega arith))
         by (inl p) _ (inr q) =
             away r c g (λ y z. q z) (λ y z. omega arith) ∙ old r c x g k
@@ -109,7 +109,7 @@ pair-more dim n m₀ m m₁ m₂ h room w e₁ e₂ = more byMode _ _ dim n m₀
 -- ---- the whole: the matrix cleared, the pairs, and the signs
 
 pub vacuum-made : (dim : ℕ) (s₀ s₁ s₂ s₃ : List Float) → statePlaces dim ≤ length s₀ → s₁ ≡ filled (dim * dim) +0 s₀
-    → s₂ ≡ matrix dim (paired (at dim s₁)) s₁ → s₃ ≡ onPart (dim * dim) dim (filled dim +1) s₂ → s₃ ≡ stored dim vacuum s₀
+    → s₂ ≡ matrix dim (pairUpOf (at dim s₁)) s₁ → s₃ ≡ onPart (dim * dim) dim (filled dim +1) s₂ → s₃ ≡ stored dim vacuum s₀
 unfolding onPart
 vacuum-made dim s₀ s₁ s₂ s₃ room e₁ e₂ e₃ = is-stored dim s₀ vacuum s₃ room (record {
   long = rw e₃ (length-put (dim * dim) dim s₂ part nan fit len) ∙ l₂ ∙ l₁;
@@ -126,8 +126,8 @@ vacuum-made dim s₀ s₁ s₂ s₃ room e₁ e₂ e₃ = is-stored dim s₀ vac
     l₁ : length s₁ ≡ length s₀
     l₁ = rw e₁ (length-mapped (λ x. +0) (dim * dim) s₀)
 
-    w : Is dim s₁ (paired (at dim s₁)) s₂
-    w = matrix-is dim s₁ (paired (at dim s₁)) s₂ (omega (arith, l₁)) e₂
+    w : Is dim s₁ (pairUpOf (at dim s₁)) s₂
+    w = matrix-is dim s₁ (pairUpOf (at dim s₁)) s₂ (omega (arith, l₁)) e₂
 
     l₂ : length s₂ ≡ length s₁
     l₂ = w .long

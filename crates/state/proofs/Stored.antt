@@ -19,21 +19,21 @@ use Rattle.laws.proofs.Slices.{part-at, length-put, put-before, put-inside, put
 use Rattle.laws.proofs.Views.{length-listOf, getD-listOf}
 use Rattle.laws.proofs.Matrix.{place-in, Within, is-matrix, matrix-is}
 use Rattle.state.specs.Bounds.{statePlaces}
-use Rattle.state.specs.State.{State, stateAt, signed, stored, Stored}
+use Rattle.state.specs.State.{State, stateAt, withSigns, stored, Stored}
 
 -- ---- the signs after the matrix
 
 module _ (dim : ℕ) (d : ℕ → Float) (s : List Float) where
-  length-signed : length (signed dim d s) ≡ length s
-  unfolding signed
+  length-signed : length (withSigns dim d s) ≡ length s
+  unfolding withSigns
   length-signed = length-listOf (length s) _
 
-  signed-before : (i : ℕ) → i < dim * dim → statePlaces dim ≤ length s → getD (signed dim d s) i nan ≡ getD s i nan
-  unfolding signed
+  signed-before : (i : ℕ) → i < dim * dim → statePlaces dim ≤ length s → getD (withSigns dim d s) i nan ≡ getD s i nan
+  unfolding withSigns
   signed-before i h room = rw (getD-listOf (length s) _ i nan (omega arith), lt-leb (dim * dim) i h)
 
-  signed-at : (i : ℕ) → i < dim → statePlaces dim ≤ length s → getD (signed dim d s) (dim * dim + i) nan ≡ d i
-  unfolding signed
+  signed-at : (i : ℕ) → i < dim → statePlaces dim ≤ length s → getD (withSigns dim d s) (dim * dim + i) nan ≡ d i
+  unfolding withSigns
   signed-at i h room =
       let a : dim * dim ≤ dim * dim + i = omega arith in
       let b : dim * dim + i < statePlaces dim = omega arith in
@@ -45,16 +45,16 @@ module _ (dim : ℕ) (d : ℕ → Float) (s : List Float) where
       )
       (ap d (add-sub-cancel-left (dim * dim) i))
 
-  signed-after : (i : ℕ) → statePlaces dim ≤ i → getD (signed dim d s) i nan ≡ getD s i nan
-  unfolding signed
+  signed-after : (i : ℕ) → statePlaces dim ≤ i → getD (withSigns dim d s) i nan ≡ getD s i nan
+  unfolding withSigns
   signed-after i h = by (lt-or-le i (length s))
     where
       a : dim * dim ≤ i
       a = omega arith
 
-      by : (i < length s) ⊎ (length s ≤ i) → getD (signed dim d s) i nan ≡ getD s i nan
+      by : (i < length s) ⊎ (length s ≤ i) → getD (withSigns dim d s) i nan ≡ getD s i nan
       by (inl g) = rw (getD-listOf (length s) _ i nan g, le-leb (dim * dim) i a, le-ltb i (statePlaces dim) h)
-      by (inr g) = List·getD-eq-default (signed dim d s) nan (rw length-signed g) ∙ sym (List·getD-eq-default s nan g)
+      by (inr g) = List·getD-eq-default (withSigns dim d s) nan (rw length-signed g) ∙ sym (List·getD-eq-default s nan g)
 
 -- ---- the two ways
 
@@ -62,7 +62,7 @@ pub stored-is : (dim : ℕ) (s₀ : List Float) (t : State) (s : List Float) →
 unfolding stored
 stored-is dim s₀ t s room e =
     let n = length-signed dim (t .d) s₀ in
-    let w = matrix-is dim (signed dim (t .d) s₀) (t .m) s (omega arith) e in record {
+    let w = matrix-is dim (withSigns dim (t .d) s₀) (t .m) s (omega arith) e in record {
       long = w .long ∙ n;
       entry = w .each;
       sign = λ i h. w .after (dim * dim + i) (omega arith) ∙ signed-at dim (t .d) s₀ i h room;
@@ -72,15 +72,15 @@ stored-is dim s₀ t s room e =
 pub is-stored : (dim : ℕ) (s₀ : List Float) (t : State) (s : List Float) → statePlaces dim ≤ length s₀ → Stored dim s₀ t s → s ≡ stored dim t s₀
 unfolding stored
 is-stored dim s₀ t s room w =
-    is-matrix dim (signed dim (t .d) s₀) (t .m) s
+    is-matrix dim (withSigns dim (t .d) s₀) (t .m) s
     (record { long = w .long ∙ sym (length-signed dim (t .d) s₀); each = w .entry; after = λ i h. one i h (lt-or-le i (statePlaces dim)) })
   where
-    one : (i : ℕ) → dim * dim ≤ i → (i < statePlaces dim) ⊎ (statePlaces dim ≤ i) → getD s i nan ≡ getD (signed dim (t .d) s₀) i nan
+    one : (i : ℕ) → dim * dim ≤ i → (i < statePlaces dim) ⊎ (statePlaces dim ≤ i) → getD s i nan ≡ getD (withSigns dim (t .d) s₀) i nan
     one i h (inl g) =
         let e : i ≡ dim * dim + (i - dim * dim) = omega arith in
         let b : i - dim * dim < dim = omega arith in
         ap (λ n. getD s n nan) e ∙ w .sign (i - dim * dim) b ∙ sym (signed-at dim (t .d) s₀ (i - dim * dim) b room)
-        ∙ ap (λ n. getD (signed dim (t .d) s₀) n nan) (sym e)
+        ∙ ap (λ n. getD (withSigns dim (t .d) s₀) n nan) (sym e)
     one i h (inr g) = w .after i g ∙ sym (signed-after dim (t .d) s₀ i g)
 
 -- nothing made anew

@@ -54,8 +54,8 @@ abbrev pub map4Of : List Float → Map4
 map4Of s = record { r0 = real4Of s 2; r1 = real4Of s 6; r2 = real4Of s 10; r3 = real4Of s 14 }
 
 -- "kind 3 block, second mode and the unit of w"; "its mode unquestioned"
-abbrev pub interactionOf : List Float → Operation
-interactionOf s = Interaction (placeOf s 1) (placeOf s 2) (placeOf s 3) (record { re = placeOf s 4; im = placeOf s 5 })
+abbrev pub interactionAt : List Float → Operation
+interactionAt s = Interaction (placeOf s 1) (placeOf s 2) (placeOf s 3) (record { re = placeOf s 4; im = placeOf s 5 })
 
 -- ---- question 17
 
@@ -76,7 +76,7 @@ decodeOf n s =
     cond (ltb (length s) opPlaces) Bad
     (cond (kindIs s 0x3ff0_0000_0000_0000) (oneOf s (modeOf (placeOf s 1) n))
     (cond (kindIs s 0x4000_0000_0000_0000) (cond (eqb n 0) Bad (twoOf s (modeOf (placeOf s 1) (n - 1))))
-    (cond (kindIs s 0x4008_0000_0000_0000) (Good (interactionOf s)) Bad)))
+    (cond (kindIs s 0x4008_0000_0000_0000) (Good (interactionAt s)) Bad)))
 
 -- ---- what an operation does
 

@@ -89,8 +89,8 @@ column4Of dim m s c = record { x0 = at dim m s c; x1 = at dim m (s + 1) c; x2 = 
 -- ---- the vacuum's pairs
 
 -- 1.0 and -1.0 beside the diagonal, f elsewhere
-abbrev pub paired : Mat → Mat
-paired f r c = cond (eqb (r % 2) 0 && eqb c (r + 1)) +1 (cond (eqb (c % 2) 0 && eqb r (c + 1)) (neg +1) (f r c))
+abbrev pub pairUpOf : Mat → Mat
+pairUpOf f r c = cond (eqb (r % 2) 0 && eqb c (r + 1)) +1 (cond (eqb (c % 2) 0 && eqb r (c + 1)) (neg +1) (f r c))
 
 -- ---- signs settled
 

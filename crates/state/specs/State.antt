@@ -22,12 +22,12 @@ abbrev pub stateAt : ℕ → List Float → State
 stateAt dim s = record { m = at dim s; d = λ i. getD s (dim * dim + i) nan }
 
 -- the slice s with the signs d after its matrix
-unfoldable pub signed : ℕ → (ℕ → Float) → List Float → List Float
-signed dim d s = listOf (length s) (λ i. cond (leb (dim * dim) i && ltb i (statePlaces dim)) (d (i - dim * dim)) (getD s i nan))
+unfoldable pub withSigns : ℕ → (ℕ → Float) → List Float → List Float
+withSigns dim d s = listOf (length s) (λ i. cond (leb (dim * dim) i && ltb i (statePlaces dim)) (d (i - dim * dim)) (getD s i nan))
 
 -- the slice s with the state t for its own: t's matrix, t's signs, and "the rest unchanged"
 unfoldable pub stored : ℕ → State → List Float → List Float
-stored dim t s = matrix dim (t .m) (signed dim (t .d) s)
+stored dim t s = matrix dim (t .m) (withSigns dim (t .d) s)
 
 -- the same, place by place: s is s₀ with t for its state
 pub record Stored (dim : ℕ) (s₀ : List Float) (t : State) (s : List Float) : Type 0 where

@@ -4,7 +4,7 @@ ghost use mathlib.Core.Path.{_≡_};
 ghost use Prim.Native.Nat.{_+_, _≤_};
 ghost use lib.ListN.{length};
 ghost use Rattle.laws.specs.Bounds.{opPlaces};
-ghost use Rattle.state.specs.Operation.{modeOf, real2Of, real4Of, map2Of, map4Of, interactionOf, decodeOf};
+ghost use Rattle.state.specs.Operation.{modeOf, real2Of, real4Of, map2Of, map4Of, interactionAt, decodeOf};
 use real::Map2;
 use real::Map4;
 use real::Real2;
@@ -107,7 +107,7 @@ fn map4_at(s: &[f64]) -> Map4
 
 fn interaction_at(s: &[f64]) -> Operation
     requires { ⌜ opPlaces ≤ length (now s) ⌝ }
-    ensures { λ r. ⌜ r ≡ interactionOf (now (s .entry)) ⌝ }
+    ensures { λ r. ⌜ r ≡ interactionAt (now (s .entry)) ⌝ }
 {
     let unit = Unit { re: s[4], im: s[5] };
     Operation::Interaction {

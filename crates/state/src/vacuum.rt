@@ -5,14 +5,14 @@ ghost use Rattle.laws.specs.Matrix.{at, matrix};
 ghost use Rattle.state.specs.Bounds.{dimOf};
 ghost use Rattle.state.specs.State.{stored};
 ghost use Rattle.state.specs.State as spec;
-ghost use Rattle.state.specs.Parts.{HasState, paired};
+ghost use Rattle.state.specs.Parts.{HasState, pairUpOf};
 use real::fill;
 use real::put;
 
 // 1.0 and -1.0 beside the diagonal, for each of n modes.
 fn pair_up(m: &mut [f64], n: usize)
     requires { ⌜ HasState (now m) n ⌝ }
-    ensures { λ _. ⌜ now (m .exit) ≡ matrix (dimOf n) (paired (at (dimOf n) (now (m .entry)))) (now (m .entry)) ⌝ }
+    ensures { λ _. ⌜ now (m .exit) ≡ matrix (dimOf n) (pairUpOf (at (dimOf n) (now (m .entry)))) (now (m .entry)) ⌝ }
 {
     let dim = 2 * n;
     let mut k = 0;

@@ -23,7 +23,7 @@ use Rattle.resolve.specs.Resolve.{Rest, none, rest, Resolved, lengthened, promi
 use Rattle.resolve.specs.declared.choose.Choice.{Choice}
 use Rattle.resolve.specs.Whole.{resolvedOf, fuseOf}
 use Rattle.detect.specs.Report.{freeOf, reportOf}
-use Rattle.detect.specs.Compile.{relabelsOf, labelsOf, itemsOf, modeOf, tallyOf, reportedOf}
+use Rattle.detect.specs.Compile.{relabelsOf, labelsOf, itemsOf, modeOfWire, tapeCounts, reportedOf}
 use Rattle.detect.proofs.Sums.{counts-add}
 
 -- ---- an event for each gate
@@ -169,12 +169,12 @@ items-few h gs =
     )
 
 pub operations-few : (h : Header) (gs : List Gate) → reportedOf h gs .operations ≤ 3 * (length gs + h .n)
-unfolding reportedOf reportOf tallyOf
-operations-few h gs = by (freeOf (tallyOf h gs))
+unfolding reportedOf reportOf tapeCounts
+operations-few h gs = by (freeOf (tapeCounts h gs))
   where
-    all : tallyOf h gs .operations ≤ 3 * (length gs + h .n)
-    all = omega (arith, counts-add (h .tolerance) (modeOf h gs) (itemsOf h gs .items) .operations, items-few h gs)
+    all : tapeCounts h gs .operations ≤ 3 * (length gs + h .n)
+    all = omega (arith, counts-add (h .tolerance) (modeOfWire h gs) (itemsOf h gs .items) .operations, items-few h gs)
 
-    by : (t : Bool) → cond t (tallyOf h gs .operations) 0 ≤ 3 * (length gs + h .n)
+    by : (t : Bool) → cond t (tapeCounts h gs .operations) 0 ≤ 3 * (length gs + h .n)
     by true = all
     by false = omega arith

@@ -15,7 +15,7 @@ use Rattle.tape.specs.declared.header.Header.{Header}
 use Rattle.detect.specs.declared.report.Report.{Report}
 use Rattle.detect.specs.declared.report.Answer.the-variants.{Done, Refused}
 use Rattle.detect.specs.Report.{reportOf, noReport}
-use Rattle.detect.specs.Compile.{floatsOf, marksOf, hasWork, reportedOf}
+use Rattle.detect.specs.Compile.{workFloats, workMarks, hasWork, reportedOf}
 use Rattle.state.specs.Bounds.{dimOf, statePlaces}
 use Rattle.gaussian.specs.Run.{verdictOf, judged, askedOf, answerOf, stateAfter}
 use Rattle.text.specs.Bounds.{printedGates, printedQubits}
@@ -66,7 +66,7 @@ same-verdict h r o o′ s s′ ho ho′ hs hs′ =
     )
 
 enough-work : (g n : ℕ) → g ≤ printedGates → n ≤ printedQubits → hasWork g n floats marks ≡ true
-enough-work g n hg hn = rw (le-ltb floats (floatsOf g n) (omega arith), le-ltb marks (marksOf g n) (omega arith))
+enough-work g n hg hn = rw (le-ltb floats (workFloats g n) (omega arith), le-ltb marks (workMarks g n) (omega arith))
 
 pub enough-state : (n : ℕ) → n ≤ printedQubits → statePlaces (dimOf n) ≤ states
 enough-state n h =

@@ -6,7 +6,7 @@ use Rattle.gate.specs.Complex.{f0}
 use Rattle.tape.specs.Parse.{parse}
 use Rattle.tape.proofs.CursorLaws.{checked-passed}
 use Rattle.tape.proofs.GoodLaws.{gates-good, gates-few}
-use Rattle.detect.specs.Compile.{floatsOf, marksOf}
+use Rattle.detect.specs.Compile.{workFloats, workMarks}
 use Rattle.detect.proofs.Checking.{refused-answer, refused-work, refused-ops, good-answer, good-work, good-ops}
 use Rattle.detect.proofs.questions.compile.Statement.{statement}
 use Rattle.detect.proofs.questions.compile.Tie as tie
@@ -31,8 +31,8 @@ returns c =
     let u = length (a .marks .now) in (
       c .refuse .ensures ∙ sym (refused-answer (parse (a .tape .now)) _ _ e w u (length (a .ops .now))),
       (
-        sym (refused-work (parse (a .tape .now)) _ _ e w u floatsOf f0 (a .work .now)),
-        (sym (refused-work (parse (a .tape .now)) _ _ e w u marksOf 0 (a .marks .now)), sym (refused-ops (parse (a .tape .now)) _ _ e w u (a .ops .now))),
+        sym (refused-work (parse (a .tape .now)) _ _ e w u workFloats f0 (a .work .now)),
+        (sym (refused-work (parse (a .tape .now)) _ _ e w u workMarks 0 (a .marks .now)), sym (refused-ops (parse (a .tape .now)) _ _ e w u (a .ops .now))),
       ),
     )
 
@@ -46,9 +46,9 @@ returns-2 c =
     let u = length (a .marks .now) in (
       f .compile-checked .ensures .0 ∙ sym (good-answer (parse (a .tape .now)) _ _ _ e w u (length (a .ops .now))),
       (
-        f .compile-checked .ensures .1 .0 ∙ sym (good-work (parse (a .tape .now)) _ _ _ e w u floatsOf f0 (a .work .now)),
+        f .compile-checked .ensures .1 .0 ∙ sym (good-work (parse (a .tape .now)) _ _ _ e w u workFloats f0 (a .work .now)),
         (
-          f .compile-checked .ensures .1 .1 .0 ∙ sym (good-work (parse (a .tape .now)) _ _ _ e w u marksOf 0 (a .marks .now)),
+          f .compile-checked .ensures .1 .1 .0 ∙ sym (good-work (parse (a .tape .now)) _ _ _ e w u workMarks 0 (a .marks .now)),
           f .compile-checked .ensures .1 .1 .1 ∙ sym (good-ops (parse (a .tape .now)) _ _ _ e w u (a .ops .now)),
         ),
       ),

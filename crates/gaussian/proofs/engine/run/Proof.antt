@@ -6,7 +6,7 @@ use Rattle.gate.specs.Complex.{f0}
 use Rattle.tape.specs.Parse.{parse}
 use Rattle.tape.proofs.CursorLaws.{checked-passed}
 use Rattle.tape.proofs.GoodLaws.{gates-good, gates-few}
-use Rattle.detect.specs.Compile.{floatsOf, marksOf}
+use Rattle.detect.specs.Compile.{workFloats, workMarks}
 use Rattle.detect.proofs.Checking.{refused-work, good-work}
 use Rattle.gaussian.specs.Run.{answerOf, opsAfter, stateAfter}
 use Rattle.gaussian.proofs.Answering.{asked-refused, asked-good}
@@ -39,9 +39,9 @@ returns c =
     let state = sym (ap (λ x. stateAfter x (a .state .now)) no) in (
       answer,
       (
-        sym (refused-work p _ _ e w u floatsOf f0 (a .work .now)),
+        sym (refused-work p _ _ e w u workFloats f0 (a .work .now)),
         (
-          sym (refused-work p _ _ e w u marksOf 0 (a .marks .now)),
+          sym (refused-work p _ _ e w u workMarks 0 (a .marks .now)),
           (
             sym (ap (λ x. opsAfter x (a .ops .now)) no),
             (state, claim-of (a .tape .now) (a .work .now) (a .marks .now) (a .ops .now) (a .state .now) _ _ answer state),
@@ -64,9 +64,9 @@ returns-2 c =
     let state = f .run-checked .ensures .1 .1 .1 .1 ∙ sym (ap (λ x. stateAfter x (a .state .now)) good) in (
       answer,
       (
-        f .run-checked .ensures .1 .0 ∙ sym (good-work p _ _ _ e w u floatsOf f0 (a .work .now)),
+        f .run-checked .ensures .1 .0 ∙ sym (good-work p _ _ _ e w u workFloats f0 (a .work .now)),
         (
-          f .run-checked .ensures .1 .1 .0 ∙ sym (good-work p _ _ _ e w u marksOf 0 (a .marks .now)),
+          f .run-checked .ensures .1 .1 .0 ∙ sym (good-work p _ _ _ e w u workMarks 0 (a .marks .now)),
           (
             f .run-checked .ensures .1 .1 .1 .0 ∙ sym (ap (λ x. opsAfter x (a .ops .now)) good),
             (state, claim-of (a .tape .now) (a .work .now) (a .marks .now) (a .ops .now) (a .state .now) _ _ answer state),
