@@ -5,6 +5,7 @@ use mathlib.Core.List.{[], _∷_, _++_}
 use Prim.Native.Nat.{ℕ, _<_, _≤_}
 use Rattle.laws.specs.Bounds.{maxQubits}
 use Rattle.laws.specs.Phase.{Phase, i0, _⊕_, minus}
+use Rattle.laws.proofs.Phases.{eqPhase}
 use Rattle.gate.specs.declared.complex.Complex.{Complex}
 use Rattle.gate.specs.declared.matrix.Mat4.{Mat4}
 use Rattle.majorana.specs.Diagonal.{phaseAOf, phaseBOf, unitOf, rotationOf, rotationMapOf}
@@ -12,7 +13,6 @@ use Rattle.majorana.specs.declared.diagonal.Rotation.{Rotation}
 use Rattle.majorana.specs.declared.diagonal.Rotation.the-variants.{By, Nothing}
 use Rattle.monomial.specs.Groups.{Four, four, Mat4Of}
 use Rattle.monomial.specs.Monomial.{IsEntry, unit, Mono4, Has4, entries4}
-use Rattle.monomial.proofs.Tests.{eqPhase}
 use Rattle.monomial.proofs.Diagonals.{diagonal, phase-a, phase-b}
 use Rattle.monomial.proofs.Rotations.{rotation-is}
 use Rattle.detect.specs.Emit.{rotated, rotationsOf}

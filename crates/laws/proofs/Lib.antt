@@ -6,6 +6,7 @@ pub mod Lists
 pub mod Slices
 pub mod Stores
 pub mod Tables
+pub mod Phases
 pub mod Zeros
 pub mod Negatives
 pub mod Integers

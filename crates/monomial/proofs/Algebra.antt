@@ -5,14 +5,14 @@ use mathlib.Core.Path.{_≡_, refl, ap, _∙_, subst}
 use mathlib.Core.Bool.{Bool, true, false, cond, _||_}
 use lib.Dec.{T}
 use Rattle.laws.specs.Phase.{Phase, _⊕_, minus, isOdd}
+use Rattle.laws.proofs.Phases.{everyPhase, eqPhase, eqPhase→, all-four, interchange, minus-sum, cancels}
 use Rattle.gate.specs.Matrix.{mul2Of, kronOf, mul4Of, dag4Of, mat4SwapQubitsOf}
 use Rattle.gate.specs.declared.matrix.Mat2.{Mat2}
 use Rattle.gate.specs.declared.matrix.Mat4.{Mat4}
 use Rattle.monomial.specs.Groups.{Two, two, Four, four, Mat2Of, Mat4Of}
 use Rattle.monomial.specs.Monomial.{IsEntry, flip, Mono2, Mono4, entries2, entries4, entriesOf, Has2, Has4, bitA, bitB, wOf, matchgatePhase, IsMatchgate}
 use Rattle.monomial.specs.Algebra.{times2, columns, plus4, times4, kron4, renamed, adjoint, Even}
-use Rattle.monomial.proofs.Tests.{everyBit, at-bit, everyPhase, eqPhase, eqPhase→}
-use Rattle.monomial.proofs.Phases.{all-four, interchange, minus-sum, cancels}
+use Rattle.monomial.proofs.Tests.{everyBit, at-bit}
 use Rattle.monomial.proofs.Products.{mul2, kron, mul4, dag4, turned, mul2-law, kron-law, mul4-law, dag4-law, turned-law}
 use Rattle.monomial.proofs.Entries.{entryOps, entrySound}
 

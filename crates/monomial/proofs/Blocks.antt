@@ -7,10 +7,11 @@ use Prim.Native.Nat.{ℕ, zero, suc, _+_, _<_}
 use lib.Dec.{T, ltb, ltb→lt}
 use lib.Ieee.Fits.{and-l, and-r}
 use Rattle.laws.specs.Phase.{Phase, i0, i1, i2, i3, isOdd}
+use Rattle.laws.proofs.Phases.{everyPhase, at-phase, eqPhase, eqPhase→}
 use Rattle.monomial.specs.Groups.{Four, four}
 use Rattle.monomial.specs.Monomial.{Entry, none, any, unit, flip, entries4, wOf, matchgatePhase}
 use Rattle.monomial.specs.Basis.{basis, bits, Signed, unitAt}
-use Rattle.monomial.proofs.Tests.{everyBit, everyPhase, at-phase, both-pairs, eqPhase, eqPhase→}
+use Rattle.monomial.proofs.Tests.{everyBit, both-pairs}
 use Rattle.monomial.proofs.Permutations.{distinct, carries}
 use Rattle.monomial.proofs.Operators.{operator, image4}
 use Rattle.monomial.proofs.Images.{signed4}

@@ -16,7 +16,6 @@ pub mod Single
 pub mod Tolerances
 pub mod Diagonals
 pub mod Rotations
-pub mod Phases
 pub mod Algebra
 pub mod Gates
 pub mod Classes

@@ -13,6 +13,7 @@ use Rattle.laws.specs.Maps.{Local, rows, cols}
 use Rattle.laws.specs.Phase.{Phase, i0, i1, i2, i3, realZ, imagZ}
 use Rattle.laws.proofs.Dyadic.{neg-dy}
 use Rattle.laws.proofs.DyadicOrder.{lt-dy, eq-dy}
+use Rattle.laws.proofs.Phases.{everyPhase, at-phase, eqPhase}
 use Rattle.real.specs.Maps.{entry2, local2}
 use Rattle.gate.specs.Complex.{f0}
 use Rattle.gate.specs.declared.complex.Complex.{Complex}
@@ -23,7 +24,7 @@ use Rattle.monomial.specs.Basis.{basis, Block, Signed, unitAt, rowZ, Per
 use Rattle.monomial.proofs.Known.{eqZ→}
 use Rattle.monomial.proofs.Complexes.{zero-is}
 use Rattle.monomial.proofs.Entries.{by-phase}
-use Rattle.monomial.proofs.Tests.{everyBit, everyPhase, everyPlace, at-bit, at-phase, at-place, at-each, eqPhase}
+use Rattle.monomial.proofs.Tests.{everyBit, everyPlace, at-bit, at-place, at-each}
 use Rattle.monomial.proofs.Permutations.{distinct, carries, distinct-is, carries-is}
 use Rattle.monomial.proofs.Moves.{basis-small, moved}
 use Rattle.monomial.proofs.Diagonals.{unit-is}

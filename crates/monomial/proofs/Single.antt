@@ -10,6 +10,7 @@ use Rattle.laws.specs.Dyadic.{Dy}
 use Rattle.laws.specs.Matrix.{Mat}
 use Rattle.laws.specs.Maps.{Local, rows, cols}
 use Rattle.laws.specs.Phase.{Phase}
+use Rattle.laws.proofs.Phases.{everyPhase, at-phase}
 use Rattle.real.specs.Maps.{row2, entry2, local2}
 use Rattle.gate.specs.Complex.{f0}
 use Rattle.gate.specs.Table.{gateX, gateY}
@@ -18,7 +19,7 @@ use Rattle.majorana.specs.Majorana.{image2Of, mapRow2Of, mapDistance2Of, majora
 use Rattle.monomial.specs.Groups.{Two, two, Mat2Of}
 use Rattle.monomial.specs.Monomial.{Entry, IsEntry, flip, Mono2, entries2, Has2}
 use Rattle.monomial.specs.Basis.{basis, Block, Signed, rowZ, Permutes, permuted}
-use Rattle.monomial.proofs.Tests.{everyBit, everyPhase, at-bit, at-phase, both-pairs, at-each}
+use Rattle.monomial.proofs.Tests.{everyBit, at-bit, both-pairs, at-each}
 use Rattle.monomial.proofs.Operators.{entriesX, entriesY, has-X, has-Y, image2, image2-law}
 use Rattle.monomial.proofs.Images.{signed2, pauli, row-near2, distance-near2}
 use Rattle.monomial.proofs.Permutations.{distinct, carries, distinct-is, carries-is}

@@ -1,13 +1,12 @@
--- Tests over all cases that compute: both bits, all phases, the four places; and what holds of each case where such a test passes. Assumes nothing.
+-- Tests over all cases that compute: both bits, the four places; and what holds of each case where such a test passes. Assumes nothing.
 use mathlib.Core.Path.{_≡_, refl}
 use mathlib.Core.Bool.{Bool, true, false, _&&_}
 use Prim.Native.Nat.{ℕ, zero, suc, _<_}
 use native.Mathlib.Nat.{not-suc-le-zero, le-of-suc-le-suc}
 use lib.Dec.{T}
 use lib.Ieee.Fits.{and-l, and-r}
-use Rattle.laws.specs.Phase.{Phase, i0, i1, i2, i3}
 
--- ---- bits, phases, places
+-- ---- bits, places
 
 abbrev pub everyBit : (Bool → Bool) → Bool
 everyBit p = p false && p true
@@ -15,15 +14,6 @@ everyBit p = p false && p true
 pub at-bit : (p : Bool → Bool) → T (everyBit p) → (b : Bool) → T (p b)
 at-bit p t false = and-l (p false) (p true) t
 at-bit p t true = and-r (p false) (p true) t
-
-abbrev pub everyPhase : (Phase → Bool) → Bool
-everyPhase p = (p i0 && p i1) && (p i2 && p i3)
-
-pub at-phase : (p : Phase → Bool) → T (everyPhase p) → (k : Phase) → T (p k)
-at-phase p t i0 = and-l (p i0) (p i1) (and-l (p i0 && p i1) (p i2 && p i3) t)
-at-phase p t i1 = and-r (p i0) (p i1) (and-l (p i0 && p i1) (p i2 && p i3) t)
-at-phase p t i2 = and-l (p i2) (p i3) (and-r (p i0 && p i1) (p i2 && p i3) t)
-at-phase p t i3 = and-r (p i2) (p i3) (and-r (p i0 && p i1) (p i2 && p i3) t)
 
 -- the places below n
 abbrev pub everyPlace : ℕ → (ℕ → Bool) → Bool
@@ -52,41 +42,3 @@ pub at-each : (n : ℕ) (P : ℕ → Type 0) → Each n P → (i : ℕ) → i < 
 at-each zero P e i h = absurd (not-suc-le-zero h)
 at-each (suc n) P e zero h = e .0
 at-each (suc n) P e (suc i) h = at-each n (λ i. P (suc i)) (e .1) i (le-of-suc-le-suc h)
-
--- ---- phases are equal
-
-abbrev pub eqPhase : Phase → Phase → Bool
-eqPhase i0 i0 = true
-eqPhase i0 i1 = false
-eqPhase i0 i2 = false
-eqPhase i0 i3 = false
-eqPhase i1 i0 = false
-eqPhase i1 i1 = true
-eqPhase i1 i2 = false
-eqPhase i1 i3 = false
-eqPhase i2 i0 = false
-eqPhase i2 i1 = false
-eqPhase i2 i2 = true
-eqPhase i2 i3 = false
-eqPhase i3 i0 = false
-eqPhase i3 i1 = false
-eqPhase i3 i2 = false
-eqPhase i3 i3 = true
-
-pub eqPhase→ : (k l : Phase) → T (eqPhase k l) → k ≡ l
-eqPhase→ i0 i0 t = refl
-eqPhase→ i0 i1 t = absurd t
-eqPhase→ i0 i2 t = absurd t
-eqPhase→ i0 i3 t = absurd t
-eqPhase→ i1 i0 t = absurd t
-eqPhase→ i1 i1 t = refl
-eqPhase→ i1 i2 t = absurd t
-eqPhase→ i1 i3 t = absurd t
-eqPhase→ i2 i0 t = absurd t
-eqPhase→ i2 i1 t = absurd t
-eqPhase→ i2 i2 t = refl
-eqPhase→ i2 i3 t = absurd t
-eqPhase→ i3 i0 t = absurd t
-eqPhase→ i3 i1 t = absurd t
-eqPhase→ i3 i2 t = absurd t
-eqPhase→ i3 i3 t = refl

@@ -1,6 +1,6 @@
 -- `abs`, `max`, `min` and `clamp` under the two views of a float that forget the sign of a zero: equality up to that sign (`nz`), and the
 -- whole number over a power of two that a small float is (`Dy`). By the laws of the comparisons that they make. Assumes nothing.
-use mathlib.Core.Path.{_≡_, refl, ap, _∙_}
+use mathlib.Core.Path.{_≡_, refl, sym, ap, _∙_}
 use mathlib.Core.Bool.{Bool, true, false, cond}
 use Prim.Native.Nat.{ℕ, zero, suc}
 use lib.IntN.{ℤ, pos, natAbs}
@@ -15,7 +15,7 @@ use Rattle.num.specs.Order.{absOf, maxOf, minOf, clampOf}
 
 -- ---- up to the sign of a zero
 
-nan-nz : (x : Float) → isNan x ≡ isNan (nz x)
+pub nan-nz : (x : Float) → isNan x ≡ isNan (nz x)
 unfolding isNan
 nan-nz nan = refl
 nan-nz (inf s) = refl
@@ -32,6 +32,9 @@ abs-nz nan = refl
 abs-nz (inf s) = refl
 abs-nz (fin s zero e) = refl
 abs-nz (fin s (suc m) e) = refl
+
+pub abs-cong : (x y : Float) → nz x ≡ nz y → nz (absOf x) ≡ nz (absOf y)
+abs-cong x y h = abs-nz x ∙ ap absOf h ∙ sym (abs-nz y)
 
 pub max-nz : (x y : Float) → nz (maxOf x y) ≡ maxOf (nz x) (nz y)
 unfolding maxOf

@@ -1,14 +1,15 @@
 -- What the operations see of a float: a function v is seen through if equal v of the operands gives equal v of the result, and equal tests.
 -- The identity is, and so is `nz`, equality up to the sign of a zero; laws over any such v serve both. Assumes nothing.
-use mathlib.Core.Path.{_≡_, refl, ap, sym, _∙_}
+use mathlib.Core.Path.{_≡_, refl, ap, _∙_}
 use mathlib.Core.Logic.{_≢_}
 use mathlib.Core.Bool.{Bool, true, false, cond}
-use Prim.Native.Nat.{ℕ, zero, suc, _≤_, _<_}
-use lib.Ieee.{Float, nan, inf, fin, binary64, add, sub, mul, div, neg, lt, eq, le}
+use Prim.Native.Nat.{ℕ, _≤_, _<_}
+use lib.Ieee.{Float, binary64, add, sub, mul, div, neg, lt, eq, le}
 use Rattle.laws.specs.Zeros.{+0, nz}
 use Rattle.laws.specs.Matrix.{Mat}
 use Rattle.laws.proofs.Zeros as zeros
 use Rattle.num.specs.Order.{absOf, clampOf}
+use Rattle.num.proofs.Alike.{abs-cong}
 
 pub record Seen (v : Float → Float) : Type 0 where
   pub add-seen : (x y z w : Float) → v x ≡ v z → v y ≡ v w → v (add binary64 x y) ≡ v (add binary64 z w)
@@ -37,16 +38,6 @@ exactly = record {
 }
 
 -- ---- equality up to the sign of a zero
-
-pub abs-nz : (x : Float) → nz (absOf x) ≡ absOf (nz x)
-unfolding absOf
-abs-nz nan = refl
-abs-nz (inf s) = refl
-abs-nz (fin s zero e) = refl
-abs-nz (fin s (suc m) e) = refl
-
-pub abs-cong : (x y : Float) → nz x ≡ nz y → nz (absOf x) ≡ nz (absOf y)
-abs-cong x y h = abs-nz x ∙ ap absOf h ∙ sym (abs-nz y)
 
 pub up-to-zeros : Seen nz
 up-to-zeros = record {

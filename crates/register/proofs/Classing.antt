@@ -6,6 +6,7 @@ use mathlib.Core.Bool.{Bool, true, false, not, cond}
 use lib.Dec.{T}
 use lib.Ieee.{Float}
 use Rattle.laws.specs.Phase.{Phase, i0, i2}
+use Rattle.laws.proofs.Phases.{eqPhase}
 use Rattle.gate.specs.Complex.{f0, f1}
 use Rattle.gate.specs.declared.matrix.Mat4.{Mat4}
 use Rattle.majorana.specs.Classify.{class2, classify2Of, swap4Of}
@@ -15,7 +16,6 @@ use Rattle.monomial.specs.Monomial.{flip, Mono4, Has4, wOf, matchgatePhase, IsM
 use Rattle.monomial.specs.Algebra.{Even}
 use Rattle.monomial.specs.Tolerance.{Tolerance}
 use Rattle.monomial.proofs.Algebra.{times-even, kron-even, renamed-even, times-fits, kron-fits, renamed-fits}
-use Rattle.monomial.proofs.Tests.{eqPhase}
 use Rattle.monomial.proofs.Diagonals.{diagonal}
 use Rattle.monomial.proofs.Classes.{swapped, swapped-has, swapped-bitA, swapped-bitB, swapped-even, swapped-fits, classify-fits, classify-unfit, classify-swapped}
 use Rattle.resolve.specs.Items.{kindOf}

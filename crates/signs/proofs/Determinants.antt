@@ -13,10 +13,10 @@ use Rattle.laws.specs.Views.{upFrom, listOf}
 use Rattle.laws.specs.Matrix.{Mat}
 use Rattle.laws.proofs.Zeros.{sub-cong, mul-cong, div-cong, neg-cong, cond-cong, le-cong, eq-cong, lt-cong}
 use Rattle.num.specs.Order.{absOf}
+use Rattle.num.proofs.Alike.{nan-nz, abs-cong}
 use Rattle.state.specs.declared.det.Best.{Best}
 use Rattle.signs.specs.Majoranas.{Four, c0, c1, c2, c3, num₁, num, Row}
 use Rattle.signs.specs.Circuits.{unitRow}
-use Rattle.signs.proofs.Values.{abs-cong}
 use Rattle.signs.proofs.Permutations.{row, allRows₁, allRows₁→, allRows, allRows→, implies, by-implies, differ, distinct, odd₁, odd}
 use Rattle.state.specs.Det.{Line, headOf, tailOf, notBelow, betterOf, lastLargest, pivotRow, put, otherRows, less, loweredAll, eliminated, lines, det}
 
@@ -47,13 +47,6 @@ tail-alike (x ∷ xs) [] h = absurd h
 tail-alike (x ∷ xs) (y ∷ ys) h = h .1
 
 -- ---- the pivot
-
-nan-nz : (x : Float) → isNan x ≡ isNan (nz x)
-unfolding isNan
-nan-nz nan = refl
-nan-nz (inf s) = refl
-nan-nz (fin s zero e) = refl
-nan-nz (fin s (suc m) e) = refl
 
 below-alike : (x y z w : Float) → nz x ≡ nz z → nz y ≡ nz w → notBelow x y ≡ notBelow z w
 below-alike x y z w h k =

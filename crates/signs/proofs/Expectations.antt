@@ -8,10 +8,11 @@ use native.Mathlib.Nat.{le-refl}
 use native.Mathlib.Omega.{arith}
 use Rattle.laws.specs.Phase.{Phase, i0, i3, _⊕_}
 use Rattle.laws.proofs.Cases.{eq-or-ne}
+use Rattle.laws.proofs.Phases.{comm, right-none}
 use Rattle.signs.specs.Paulis.{sgn, Pauli, pr, ph, Str, times, signed, phases, mul, nought, turn, real, flips, still}
 use Rattle.signs.specs.Paulis.{expectation}
 use Rattle.signs.specs.Majoranas.{paired}
-use Rattle.signs.proofs.Tables.{comm, right-none, xor-none, flips-pr, quiet-ph}
+use Rattle.signs.proofs.Tables.{xor-none, flips-pr, quiet-ph}
 use Rattle.signs.proofs.Strings.{times-left, times-right, times-times}
 use Rattle.signs.proofs.Values.{turn-nought, real-sgn}
 

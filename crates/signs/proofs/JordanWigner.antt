@@ -13,10 +13,10 @@ use Rattle.laws.specs.Tables.{update}
 use Rattle.laws.specs.Phase.{i0, _⊕_}
 use Rattle.laws.proofs.Cases.{eq-or-ne, lt-or-le}
 use Rattle.laws.proofs.Tables.{update-here, two-first, two-second, by-two}
+use Rattle.laws.proofs.Phases.{comm}
 use Rattle.signs.specs.Paulis.{sgn, Pauli, pI, pX, pY, pZ, Str, signed, identity}
 use Rattle.signs.specs.Blocks.{One, Two, Block₁, Block, on₁, on}
 use Rattle.signs.specs.Majoranas.{xy, major, gamma, maj₁, maj, Four, c0, c1, c2, c3, num₁, num, Row, Sends₁, Sends}
-use Rattle.signs.proofs.Tables.{comm}
 use Rattle.signs.proofs.Permutations.{odd₁, odd, none₁, none, parity₁, parity}
 
 -- ---- what stands where in a Majorana operator

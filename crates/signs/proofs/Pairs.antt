@@ -11,11 +11,12 @@ use borrow.Author.Tests.{eq-eqb, ne-eqb}
 use Rattle.laws.specs.Zeros.{+0, nz}
 use Rattle.laws.specs.Phase.{Phase, i0, i2, i3, _⊕_}
 use Rattle.laws.proofs.Cases.{lt-or-le, eq-or-ne}
+use Rattle.laws.proofs.Phases.{comm, cancel, right-none, eqPhase}
 use Rattle.state.specs.State.{vacuum}
 use Rattle.signs.specs.Paulis.{sgn, Pauli, pr, ph, Str, signed, phases, mul, Value, nought, plus, minus, turn, float}
 use Rattle.signs.specs.Paulis.{real, flips, expectation}
 use Rattle.signs.specs.Majoranas.{xy, gamma, paired}
-use Rattle.signs.proofs.Tables.{comm, cancel, right-none, sgn-xor, flips-pr, quiet-ph, samePhase, ph-square}
+use Rattle.signs.proofs.Tables.{sgn-xor, flips-pr, quiet-ph, ph-square}
 use Rattle.signs.proofs.JordanWigner.{before, here, beyond}
 use Rattle.signs.proofs.Values.{plus≢nought, minus≢nought}
 use Rattle.signs.proofs.Expectations.{phases-single, still-yes, expectation-turned, expectation-still}
@@ -199,7 +200,7 @@ kinds-differ n x y h k a e d =
     back = same-phases n y x k h (sym e) ∙ ap (λ b. ph (xy (k .kind)) (xy b)) d ∙ ph-square (xy (k .kind))
 
     no : i0 ≡ i2 → ⊥
-    no c = subst (λ z. T (samePhase i0 z)) c tt
+    no c = subst (λ z. T (eqPhase i0 z)) c tt
 
 -- a value is there for two of one mode and of different kinds only
 pub paired-mode : (n : ℕ) (x y : Str) (h : Turns n x) (k : Turns n y) → pairing n x y ≢ nought → (h .mode ≡ k .mode) × (h .kind ≢ k .kind)

@@ -7,10 +7,11 @@ use Prim.Native.Nat.{ℕ}
 use lib.Dec.{T, eqb, ltb}
 use lib.Ieee.Fits.{and-i, and-l, and-r}
 use Rattle.laws.specs.Phase.{Phase, i0, i1, i2, i3, _⊕_}
+use Rattle.laws.proofs.Phases.{assoc, Sums, no-phase, eqPhase, eqPhase→, eqPhase-refl}
 use Rattle.signs.specs.Paulis.{sgn, pI, pZ, pr, ph}
 use Rattle.signs.specs.Blocks.{One, Two, _·₁_, _·_, front₁, front, Block₁, Block}
 use Rattle.signs.specs.Majoranas.{maj₁, maj, Four, c0, c1, c2, c3, num₁, num, Row, image₁, image, Sends₁, Sends}
-use Rattle.signs.proofs.Tables.{four, assoc, Sums, no-phase, samePhase, same-phase, phase-refl, samePauli, same-pauli, pauli-refl, pr-comm}
+use Rattle.signs.proofs.Tables.{four, samePauli, same-pauli, pauli-refl, pr-comm}
 use Rattle.signs.proofs.Tables.{pr-square, ph-square}
 
 -- ---- tests over all rows
@@ -55,24 +56,24 @@ by-implies true b h k = h
 by-implies false b h k = absurd k
 
 abbrev pub sameOne : One → One → Bool
-sameOne x y = samePhase (x .phase) (y .phase) && samePauli (x .at) (y .at)
+sameOne x y = eqPhase (x .phase) (y .phase) && samePauli (x .at) (y .at)
 
 pub same-one : (x y : One) → T (sameOne x y) → x ≡ y
 same-one x y h =
-    let a = samePhase (x .phase) (y .phase) in
+    let a = eqPhase (x .phase) (y .phase) in
     let b = samePauli (x .at) (y .at) in
-    λ i. record { phase = same-phase (x .phase) (y .phase) (and-l a b h) i; at = same-pauli (x .at) (y .at) (and-r a b h) i }
+    λ i. record { phase = eqPhase→ (x .phase) (y .phase) (and-l a b h) i; at = same-pauli (x .at) (y .at) (and-r a b h) i }
 
 abbrev pub sameTwo : Two → Two → Bool
-sameTwo x y = samePhase (x .phase) (y .phase) && samePauli (x .first) (y .first) && samePauli (x .second) (y .second)
+sameTwo x y = eqPhase (x .phase) (y .phase) && samePauli (x .first) (y .first) && samePauli (x .second) (y .second)
 
 pub same-two : (x y : Two) → T (sameTwo x y) → x ≡ y
 same-two x y h =
-    let a = samePhase (x .phase) (y .phase) in
+    let a = eqPhase (x .phase) (y .phase) in
     let b = samePauli (x .first) (y .first) in
     let c = samePauli (x .second) (y .second) in
     λ i. record {
-      phase = same-phase (x .phase) (y .phase) (and-l a b (and-l (a && b) c h)) i;
+      phase = eqPhase→ (x .phase) (y .phase) (and-l a b (and-l (a && b) c h)) i;
       first = same-pauli (x .first) (y .first) (and-r a b (and-l (a && b) c h)) i;
       second = same-pauli (x .second) (y .second) (and-r (a && b) c h) i;
     }
@@ -176,12 +177,12 @@ anti-outcomes : (sameTwo (image (row false c0) · image (row true c0)) (front i2
 anti-outcomes = (refl, refl)
 
 one-refl : (x : One) → T (sameOne x x)
-one-refl x = and-i (samePhase (x .phase) (x .phase)) (samePauli (x .at) (x .at)) (phase-refl (x .phase)) (pauli-refl (x .at))
+one-refl x = and-i (eqPhase (x .phase) (x .phase)) (samePauli (x .at) (x .at)) (eqPhase-refl (x .phase)) (pauli-refl (x .at))
 
 two-refl : (x : Two) → T (sameTwo x x)
 two-refl x =
-    and-i (samePhase (x .phase) (x .phase) && samePauli (x .first) (x .first)) (samePauli (x .second) (x .second))
-    (and-i (samePhase (x .phase) (x .phase)) (samePauli (x .first) (x .first)) (phase-refl (x .phase)) (pauli-refl (x .first)))
+    and-i (eqPhase (x .phase) (x .phase) && samePauli (x .first) (x .first)) (samePauli (x .second) (x .second))
+    (and-i (eqPhase (x .phase) (x .phase)) (samePauli (x .first) (x .first)) (eqPhase-refl (x .phase)) (pauli-refl (x .first)))
     (pauli-refl (x .second))
 
 anti-differ₁ : (r s : Row Bool) → image₁ r ·₁ image₁ s ≡ front₁ i2 (image₁ s ·₁ image₁ r) → T (differ num₁ r s)

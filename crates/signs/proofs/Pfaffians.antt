@@ -17,13 +17,14 @@ use Rattle.laws.specs.Phase.{i2}
 use Rattle.laws.proofs.Cases.{eq-or-ne}
 use Rattle.laws.proofs.Tables.{exchanged-second, exchanged-away, exchanged-twice, exchanged-below}
 use Rattle.laws.proofs.Zeros.{div-cong, lt-cong, eq-cong}
+use Rattle.laws.proofs.Phases.{comm}
 use Rattle.num.specs.Order.{absOf}
+use Rattle.num.proofs.Alike.{abs-cong}
 use Rattle.pfaffian.specs.Pfaffian.{search, pivotOf, pivoted, less, pf}
 use Rattle.signs.specs.Paulis.{Str, times, signed, mul as mulₛ, identity, Value, nought, plus, minus, turn, float, expectation}
-use Rattle.signs.proofs.Tables.{comm}
 use Rattle.signs.proofs.Values.{plus≢nought, minus≢nought, float-one, _×ᵥ_, turn-turn, turn-left, turn-right, mul-nought, mul-assoc, mul-value}
 use Rattle.signs.proofs.Values.{add-none-left, add-none-right}
-use Rattle.signs.proofs.Values.{sg-value, abs-cong}
+use Rattle.signs.proofs.Values.{sg-value}
 use Rattle.signs.proofs.Strings.{times-right, times-times}
 use Rattle.signs.proofs.Expectations.{still-yes, expectation-still, expectation-signed}
 use Rattle.signs.proofs.Pairs.{Turns, pairing, single}

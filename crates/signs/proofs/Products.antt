@@ -10,10 +10,11 @@ use Rattle.laws.specs.Tables.{exchanged}
 use Rattle.laws.specs.Phase.{Phase, i0, i1, i2, i3, _⊕_}
 use Rattle.laws.proofs.Cases.{eq-or-ne}
 use Rattle.laws.proofs.Tables.{exchanged-first, exchanged-second, exchanged-away}
+use Rattle.laws.proofs.Phases.{comm}
 use Rattle.signs.specs.Paulis.{sgn, Str, times, signed, mul, identity, Value, nought, plus, turn, real, flips}
 use Rattle.signs.specs.Paulis.{still, expectation}
 use Rattle.signs.specs.Majoranas.{paired}
-use Rattle.signs.proofs.Tables.{comm, flips-pr}
+use Rattle.signs.proofs.Tables.{flips-pr}
 use Rattle.signs.proofs.Strings.{mul-assoc, times-left, times-right, times-times, signed-signed}
 use Rattle.signs.proofs.Values.{_×ᵥ_, turn-left}
 use Rattle.signs.proofs.Expectations.{expectation-turned, expectation-still, expectation-mul}

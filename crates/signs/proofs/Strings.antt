@@ -10,9 +10,10 @@ use Rattle.laws.specs.Tables.{update}
 use Rattle.laws.specs.Phase.{Phase, _⊕_}
 use Rattle.laws.proofs.Cases.{eq-or-ne}
 use Rattle.laws.proofs.Tables.{update-here, update-away}
+use Rattle.laws.proofs.Phases.{assoc, Sums, cancel}
 use Rattle.signs.specs.Paulis.{sgn, Pauli, pr, ph, Str, times, signed, phases, mul}
 use Rattle.signs.specs.Blocks.{Block₁, Block, on₁, on}
-use Rattle.signs.proofs.Tables.{assoc, cancel, Sums, sgn-xor, pr-assoc, ph-assoc}
+use Rattle.signs.proofs.Tables.{sgn-xor, pr-assoc, ph-assoc}
 
 -- ---- the phases of products add up
 

@@ -1,64 +1,15 @@
--- Laws of phases and of single Paulis: phases are a commutative group, products of Paulis are associative, and which products turn |0>.
+-- Laws of signs and of single Paulis: products of Paulis are associative, and which products turn |0>.
 -- Those on Paulis are computed tests over all cases. Assumes nothing.
 use mathlib.Core.Path.{_≡_, refl, sym, ap, _∙_}
 use mathlib.Core.Bool.{Bool, true, false, xor, _&&_, true≢false}
 use Prim.Native.Nat.{ℕ, zero, suc}
 use lib.Dec.{T, eqb, eqb→eq, eqb-refl}
 use lib.Ieee.Fits.{and-l, and-r}
-use Rattle.laws.specs.Phase.{Phase, i0, i1, i2, i3, next, _⊕_}
+use Rattle.laws.specs.Phase.{i0, i1, i3, _⊕_}
+use Rattle.laws.proofs.Phases.{eqPhase, eqPhase→}
 use Rattle.signs.specs.Paulis.{sgn, Pauli, pI, pX, pY, pZ, pr, ph, flips}
 
--- ---- phases
-
-next-left : (x y : Phase) → next x ⊕ y ≡ next (x ⊕ y)
-next-left i0 y = refl
-next-left i1 y = refl
-next-left i2 y = refl
-next-left i3 i0 = refl
-next-left i3 i1 = refl
-next-left i3 i2 = refl
-next-left i3 i3 = refl
-
-pub assoc : (x y z : Phase) → x ⊕ y ⊕ z ≡ x ⊕ (y ⊕ z)
-assoc i0 y z = refl
-assoc i1 y z = next-left y z
-assoc i2 y z = next-left (next y) z ∙ ap next (next-left y z)
-assoc i3 y z = next-left (next (next y)) z ∙ ap next (next-left (next y) z ∙ ap next (next-left y z))
-
-pub right-none : (x : Phase) → x ⊕ i0 ≡ x
-right-none i0 = refl
-right-none i1 = refl
-right-none i2 = refl
-right-none i3 = refl
-
-next-right : (x y : Phase) → x ⊕ next y ≡ next (x ⊕ y)
-next-right i0 y = refl
-next-right i1 y = refl
-next-right i2 y = refl
-next-right i3 y = refl
-
-pub comm : (x y : Phase) → x ⊕ y ≡ y ⊕ x
-comm x i0 = right-none x
-comm x i1 = next-right x i0 ∙ ap next (right-none x)
-comm x i2 = next-right x i1 ∙ ap next (next-right x i0 ∙ ap next (right-none x))
-comm x i3 = next-right x i2 ∙ ap next (next-right x i1 ∙ ap next (next-right x i0 ∙ ap next (right-none x)))
-
-pub left-comm : (x y z : Phase) → x ⊕ (y ⊕ z) ≡ y ⊕ (x ⊕ z)
-left-comm x y z = sym (assoc x y z) ∙ ap (λ (w : Phase). w ⊕ z) (comm x y) ∙ assoc y x z
-
--- sums of phases, in any order
-pub ruleset Sums = (assoc, comm, left-comm)
-
--- a factor on both sides
-pub cancel : (x y z : Phase) → x ⊕ y ≡ x ⊕ z → y ≡ z
-cancel i0 y z e = e
-cancel i1 y z e = assoc i3 i1 y ∙ ap (λ w. i3 ⊕ w) e ∙ sym (assoc i3 i1 z)
-cancel i2 y z e = assoc i2 i2 y ∙ ap (λ w. i2 ⊕ w) e ∙ sym (assoc i2 i2 z)
-cancel i3 y z e = assoc i1 i3 y ∙ ap (λ w. i1 ⊕ w) e ∙ sym (assoc i1 i3 z)
-
--- only 1 is its own square
-pub no-phase : (x y : Phase) → y ≡ i0 → x ≡ x ⊕ x ⊕ y → x ≡ i0
-no-phase x y h e = cancel x x i0 (sym (right-none (x ⊕ x)) ∙ ap (λ k. x ⊕ x ⊕ k) (sym h) ∙ sym e ∙ sym (right-none x))
+-- ---- signs
 
 -- two signs are one
 pub sgn-xor : (a b : Bool) → sgn a ⊕ sgn b ≡ sgn (xor a b)
@@ -74,33 +25,6 @@ xor-none false = refl
 xor-none true = refl
 
 -- ---- tests that are computed
-
-abbrev phaseNumber : Phase → ℕ
-phaseNumber i0 = 0
-phaseNumber i1 = 1
-phaseNumber i2 = 2
-phaseNumber i3 = 3
-
-abbrev phaseOf : ℕ → Phase
-phaseOf zero = i0
-phaseOf (suc zero) = i1
-phaseOf (suc (suc zero)) = i2
-phaseOf (suc (suc (suc n))) = i3
-
-phase-of : (x : Phase) → phaseOf (phaseNumber x) ≡ x
-phase-of i0 = refl
-phase-of i1 = refl
-phase-of i2 = refl
-phase-of i3 = refl
-
-abbrev pub samePhase : Phase → Phase → Bool
-samePhase x y = eqb (phaseNumber x) (phaseNumber y)
-
-pub same-phase : (x y : Phase) → T (samePhase x y) → x ≡ y
-same-phase x y h = sym (phase-of x) ∙ ap phaseOf (eqb→eq (phaseNumber x) (phaseNumber y) h) ∙ phase-of y
-
-pub phase-refl : (x : Phase) → T (samePhase x x)
-phase-refl x = eqb-refl (phaseNumber x)
 
 abbrev pauliNumber : Pauli → ℕ
 pauliNumber pI = 0
@@ -171,8 +95,8 @@ pr-assoc p q r = same-pauli (pr (pr p q) r) (pr p (pr q r)) (all3→ (λ p q r. 
 
 pub ph-assoc : (p q r : Pauli) → ph p q ⊕ ph (pr p q) r ≡ ph q r ⊕ ph p (pr q r)
 ph-assoc p q r =
-    same-phase (ph p q ⊕ ph (pr p q) r) (ph q r ⊕ ph p (pr q r))
-    (all3→ (λ p q r. samePhase (ph p q ⊕ ph (pr p q) r) (ph q r ⊕ ph p (pr q r))) tt p q r)
+    eqPhase→ (ph p q ⊕ ph (pr p q) r) (ph q r ⊕ ph p (pr q r))
+    (all3→ (λ p q r. eqPhase (ph p q ⊕ ph (pr p q) r) (ph q r ⊕ ph p (pr q r))) tt p q r)
 
 pub pr-comm : (p q : Pauli) → pr p q ≡ pr q p
 pr-comm p q = same-pauli (pr p q) (pr q p) (all2→ (λ p q. samePauli (pr p q) (pr q p)) tt p q)
@@ -192,10 +116,10 @@ ph-square pZ = refl
 
 -- the other order has the other sign of i
 pub ph-back : (p q : Pauli) → ph p q ⊕ ph q p ≡ i0
-ph-back p q = same-phase (ph p q ⊕ ph q p) i0 (all2→ (λ p q. samePhase (ph p q ⊕ ph q p) i0) tt p q)
+ph-back p q = eqPhase→ (ph p q ⊕ ph q p) i0 (all2→ (λ p q. eqPhase (ph p q ⊕ ph q p) i0) tt p q)
 
 -- the tests are none that always pass: X Y is i Z, Y X is -i Z
-x-y : (ph pX pY ≡ i1) × (ph pY pX ≡ i3) × (pr pX pY ≡ pZ) × (samePhase i1 i3 ≡ false) × (samePauli pX pY ≡ false)
+x-y : (ph pX pY ≡ i1) × (ph pY pX ≡ i3) × (pr pX pY ≡ pZ) × (eqPhase i1 i3 ≡ false) × (samePauli pX pY ≡ false)
 x-y = (refl, refl, refl, refl, refl)
 
 pub flips-pr : (p q : Pauli) → flips (pr p q) ≡ xor (flips p) (flips q)

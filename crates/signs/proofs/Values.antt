@@ -14,7 +14,6 @@ use Rattle.laws.specs.Phase.{Phase, i0, i1, i2, i3, _⊕_}
 use Rattle.laws.proofs.Cases.{lt-or-le, eq-or-ne}
 use Rattle.laws.proofs.Zeros.{add-cong, mul-cong}
 use Rattle.laws.proofs.Negatives.{sg-cong}
-use Rattle.num.specs.Order.{absOf}
 use Rattle.signs.specs.Paulis.{sgn, Value, nought, plus, minus, turn, float, real}
 
 -- ---- three values
@@ -171,17 +170,6 @@ module _ (x y : Float) (v w : Value) (h : nz x ≡ float v) (k : nz y ≡ float 
 
 pub sg-value : (b : Bool) (x : Float) (v : Value) → nz x ≡ float v → nz (sg b x) ≡ float (turn b v)
 sg-value b x v h = sg-cong b x (float v) (h ∙ sym (float-nz v)) ∙ sg-float b v
-
--- the absolute value, of any floats
-abs-nz : (x : Float) → nz (absOf x) ≡ nz (absOf (nz x))
-unfolding absOf
-abs-nz nan = refl
-abs-nz (inf s) = refl
-abs-nz (fin s zero e) = refl
-abs-nz (fin s (suc m) e) = refl
-
-pub abs-cong : (x y : Float) → nz x ≡ nz y → nz (absOf x) ≡ nz (absOf y)
-abs-cong x y h = abs-nz x ∙ ap (λ z. nz (absOf z)) h ∙ sym (abs-nz y)
 
 -- ---- a row with one entry 1 or -1, at p, against k values
 
