@@ -10,14 +10,12 @@ use detect::Answer;
 use detect::Compiled;
 use detect::Report;
 use order::Ordering;
+use state::MAX_QUBITS;
 
 // Words of a report.
 const WORD_COUNT: usize = 14;
 
-// Entries of a table.
-const MAX_QUBITS: usize = 128;
-
-// The slices for the answer, of these lengths, are long enough.
+// The slices for the answer, of these lengths, are long enough: a table has an entry for each of MAX_QUBITS.
 pub fn has_report(place: usize, report: usize, measures: usize, tables: usize) -> bool
     ensures { λ r. ⌜ r ≡ hasReport place report measures tables ⌝ }
 {
