@@ -19,7 +19,7 @@ use Rattle.tape.specs.Header.{headerAt, isTolerance, headerMarked, headerOf}
 use Rattle.tape.specs.Codes.{qubitsOf, floatsOf, gateLength}
 use Rattle.tape.specs.Records.{markedAt, qubitsBelow, qubitsDiffer, entriesSmall, gateFault, sound, gateRecordAt, recordAt}
 use Rattle.tape.specs.Gates.{matrix1At, matrix2At, gateAt}
-use Rattle.tape.specs.Parse.{Content, accepted, withGate, stepped, walk, afterHeader, parse, contentOf}
+use Rattle.tape.specs.Parse.{Content, accepted, nothing, withGate, stepped, walk, afterHeader, parse, contentOf}
 use Rattle.tape.specs.declared.header.Header.{Header}
 use Rattle.tape.specs.declared.gates.Gate.{Gate}
 use Rattle.tape.specs.declared.gates.Gate.the-variants.{One, Two}
@@ -110,9 +110,6 @@ Seen r s (fraction x) = r .fraction ≡ x
 abbrev headed : ℕ → ℕ → ℕ → Header
 headed n flags limit = record { n = n; flags = flags; tolerance = f0; limit = limit }
 
-abbrev empty : Content
-empty = record { gates = []; places = []; labels = [] }
-
 abbrev only : Gate → Content
 only g = record { gates = g ∷ []; places = headerLength ∷ []; labels = [] }
 
@@ -125,8 +122,8 @@ czOn01 = Two 0x11 0 1 gateCz
 abbrev iswapOn02 : Gate
 iswapOn02 = Two 0x13 0 2 gateISwap
 
-parses : (parse (tape 2 0 128 0 []) ≡ accepted (headed 2 0 128) empty)
-    × (parse (tape 2 0 127 0 []) ≡ accepted (headed 2 0 127) empty)
+parses : (parse (tape 2 0 128 0 []) ≡ accepted (headed 2 0 128) nothing)
+    × (parse (tape 2 0 127 0 []) ≡ accepted (headed 2 0 127) nothing)
     × (parse (tape 2 0 128 0 x0) ≡ accepted (headed 2 0 128) (only xOn0))
     × (parse (tape 2 0 127 0 x0) ≡ accepted (headed 2 0 127) (only xOn0))
     × (parse (tape 2 1 128 0 cz01) ≡ accepted (headed 2 1 128) (only czOn01))
@@ -244,11 +241,11 @@ module _ (t : List ℕ) (h : Header) (c : Content) (e : parse t ≡ accepted h c
 -- ---- the theorems
 
 empty-row : Row (tape 2 0 128 0 []) 0 (reportedOf (headed 2 0 128) [])
-empty-row = enough _ (headed 2 0 128) empty (parses .0) no-gate (omega arith) (omega arith) (no-items 128) (omega arith)
+empty-row = enough _ (headed 2 0 128) nothing (parses .0) no-gate (omega arith) (omega arith) (no-items 128) (omega arith)
 
 row : {t : List ℕ} {k : ℕ} → Edge t k → (r : Report) × Row t k r
 row limit-128 = (_, empty-row)
-row limit-127 = (_, short _ (headed 2 0 127) empty (parses .1) no-gate (omega arith) (omega arith) (no-items 127) (omega arith))
+row limit-127 = (_, short _ (headed 2 0 127) nothing (parses .1) no-gate (omega arith) (omega arith) (no-items 127) (omega arith))
 row x-128 = (_, enough _ (headed 2 0 128) (only xOn0) (parses .2) (one-x gateX) (omega arith) (omega arith) (one-item 128) (omega arith))
 row x-127 = (_, short _ (headed 2 0 127) (only xOn0) (parses .3) (one-x gateX) (omega arith) (omega arith) (one-item 127) (omega arith))
 row cz-relabelled = (_, cz-row)

@@ -9,9 +9,8 @@ use Rattle.num.specs.Order.{absOf}
 use Rattle.laws.specs.Views.{upFrom, seek}
 use Rattle.laws.specs.Zeros.{+0, +1}
 use Rattle.laws.specs.Maps.{Local, dot}
-use Rattle.real.specs.Maps.{local2, local4}
+use Rattle.real.specs.Maps.{real4, local2, local4}
 use Rattle.real.specs.declared.maps.Map2.{Map2}
-use Rattle.real.specs.declared.maps.Real4.{Real4}
 use Rattle.real.specs.declared.maps.Map4.{Map4}
 use Rattle.state.specs.State.{vacuum, get}
 use Rattle.state.specs.Det.{betterOf, lastLargest, less, loweredAll, eliminated, det, odd}
@@ -20,12 +19,9 @@ use Rattle.state.specs.Modes.{isPermutation, qubitAt}
 
 -- ---- maps
 
-abbrev four : Float → Float → Float → Float → Real4
-four a b c d = record { x0 = a; x1 = b; x2 = c; x3 = d }
-
 -- 1 0 0 0 / 0 0 -1 0 / 0 1 0 0 / 0 0 0 1: a turn by a right angle of the indices 1 and 2
 abbrev between : Map4
-between = record { r0 = four +1 +0 +0 +0; r1 = four +0 +0 (neg +1) +0; r2 = four +0 +1 +0 +0; r3 = four +0 +0 +0 +1 }
+between = record { r0 = real4 +1 +0 +0 +0; r1 = real4 +0 +0 (neg +1) +0; r2 = real4 +0 +1 +0 +0; r3 = real4 +0 +0 +0 +1 }
 
 -- 1 0 / 0 -1: the map of X
 abbrev flip : Map2
