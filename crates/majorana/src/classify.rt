@@ -1,6 +1,7 @@
 // What a two-qubit block is.
 ghost use mathlib.Core.Path.{_≡_};
-ghost use Rattle.majorana.specs.Classify.{diagonalOf, withoutPhaseOf, residual2Of, plainOf, swappedOf, classify2Of, rankOf, residualOf};
+ghost use Rattle.num.specs.Order.{minOf};
+ghost use Rattle.majorana.specs.Classify.{diagonalOf, withoutPhaseOf, residual2Of, plainOf, fallbackOf, swappedOf, classify2Of, rankOf, residualOf};
 use crate::diagonal::interaction;
 use crate::diagonal::offdiag4;
 use crate::diagonal::phase_none;
@@ -75,6 +76,35 @@ fn plain(diag: bool, r0: f64, u: Mat4) -> Class2
     }
 }
 
+// The last step with relabelling: an interaction of u, one of v = SWAP · u, or neither; `diag` and `other` say
+// whether u and v are diagonal, r0 and r1 are their residuals.
+fn fallback(diag: bool, other: bool, r0: f64, r1: f64, u: Mat4, v: Mat4) -> Class2
+    ensures { λ c. ⌜ c ≡ fallbackOf diag other (minOf r0 r1) u v ⌝ }
+{
+    if diag {
+        return Class2 {
+            kind: Kind2::Interaction,
+            swap: false,
+            v: u,
+            angled: true,
+        };
+    }
+    if other {
+        return Class2 {
+            kind: Kind2::Interaction,
+            swap: true,
+            v,
+            angled: true,
+        };
+    }
+    Class2 {
+        kind: Kind2::NonGaussian(num::min(r0, r1)),
+        swap: false,
+        v: u,
+        angled: false,
+    }
+}
+
 // The steps on v = SWAP · u, and the last one with relabelling.
 fn swapped(tol: f64, diag: bool, r0: f64, u: Mat4, v: Mat4) -> Class2
     ensures { λ r. ⌜ r ≡ swappedOf tol diag r0 u v ⌝ }
@@ -97,28 +127,7 @@ fn swapped(tol: f64, diag: bool, r0: f64, u: Mat4, v: Mat4) -> Class2
             angled: either(diag, diag_v),
         };
     }
-    if diag {
-        return Class2 {
-            kind: Kind2::Interaction,
-            swap: false,
-            v: u,
-            angled: true,
-        };
-    }
-    if diag_v {
-        return Class2 {
-            kind: Kind2::Interaction,
-            swap: true,
-            v,
-            angled: true,
-        };
-    }
-    Class2 {
-        kind: Kind2::NonGaussian(num::min(r0, r1)),
-        swap: false,
-        v: u,
-        angled: false,
-    }
+    fallback(diag, diag_v, r0, r1, u, v)
 }
 
 // What the block u is: its own tests first, then, where relabelling is on, those of SWAP · u.
