@@ -1,8 +1,10 @@
 -- Row k divided by the pivot, and then the rows from k + 2 on made by the rows k and k + 1: there each entry is what the plain elimination gives,
--- which divides anew for every entry. Assumes nothing.
+-- which divides anew for every entry. And the places of the three rows that make a row anew. Assumes nothing.
 use mathlib.Core.Path.{_≡_, refl, _∙_}
 use mathlib.Core.List.{List}
-use Prim.Native.Nat.{ℕ, suc, _+_, _*_, _≤_, _<_}
+use Prim.Native.Nat.{ℕ, suc, _+_, _-_, _*_, _≤_, _<_}
+use native.Mathlib.Nat.{suc-mul, add-mul, mul-le-mul-right}
+use native.Mathlib.Numerals.{add-one}
 use native.Mathlib.Omega.{arith}
 use lib.ListN.{length}
 use lib.Ieee.{Float, binary64, div}
@@ -46,3 +48,31 @@ eliminated dim k m m₁ m₂ akk hk room ea e₁ e₂ = record {
         ∙ (λ t. lessBy (whole r c (omega arith) br bc t) (divided r hr br t) (divided c hc bc t) (whole (k + 1) r (omega arith) (omega arith) br t)
         (whole (k + 1) c (omega arith) (omega arith) bc t))
         ∙ rw (ea, one)
+
+-- ---- a walk along row k: place x is in column x - k dim, and the rows k + 1 and i are known by their distances
+
+pub record Walk (dim k i x : ℕ) : Type 0 where
+  pub first : x ≡ k * dim + (x - k * dim)
+  pub second : x + dim ≡ (k + 1) * dim + (x - k * dim)
+  pub own : x + (i * dim - k * dim) ≡ i * dim + (x - k * dim)
+  pub low : k + 2 ≤ x - k * dim
+  pub below : x - k * dim < dim
+  pub room : (x + dim < dim * dim) × (x + (i * dim - k * dim) < dim * dim)
+
+-- the rows of the pair and row i are in the matrix
+pub rows-in : (dim k i : ℕ) → k + 2 ≤ i → i < dim → ((k + 1) * dim ≡ k * dim + dim) × (k * dim ≤ i * dim) × (i * dim + dim ≤ dim * dim)
+rows-in dim k i l h =
+    let e : (k + 1) * dim ≡ k * dim + dim = rw (add-one k) (suc-mul k dim) in
+    let m : suc i * dim ≤ dim * dim = mul-le-mul-right dim h in
+    (e, mul-le-mul-right dim (omega arith), omega (arith, m, suc-mul i dim))
+
+pub walk : (dim k i x : ℕ) → k + 2 ≤ i → i < dim → k * dim + (k + 2) ≤ x → x < k * dim + dim → Walk dim k i x
+walk dim k i x l h lx hx =
+    let w = rows-in dim k i l h in record {
+      first = omega arith;
+      second = omega (arith, w .0);
+      own = omega (arith, w .1);
+      low = omega arith;
+      below = omega arith;
+      room = (omega (arith, w, mul-le-mul-right dim l, add-mul k 2 dim), omega (arith, w));
+    }
