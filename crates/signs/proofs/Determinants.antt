@@ -7,7 +7,7 @@ use mathlib.Core.List.{List, [], _∷_}
 use Prim.Native.Nat.{ℕ, zero, suc, _<_}
 use native.Mathlib.Omega.{arith}
 use lib.Dec.{T, eqb, lit<}
-use lib.Ieee.{Float, nan, inf, fin, binary64, add, sub, mul, div, neg, lt, le, eq, isNan}
+use lib.Ieee.{Float, binary64, add, sub, mul, div, neg, lt, le, eq, isNan}
 use Rattle.laws.specs.Zeros.{+0, +1, nz}
 use Rattle.laws.specs.Views.{upFrom, listOf}
 use Rattle.laws.specs.Matrix.{Mat}
