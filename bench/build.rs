@@ -14,7 +14,8 @@ fn main() {
         let archive = env::var(&variable).unwrap_or_else(|_| panic!("{variable} must name {file}"));
         println!("cargo:rerun-if-changed={archive}");
         assert!(Path::new(&archive).ends_with(&file), "{archive} is no {file}");
-        fs::copy(&archive, Path::new(&out).join(&file)).unwrap_or_else(|e| panic!("{archive}: {e}"));
+        fs::copy(&archive, Path::new(&out).join(&file))
+            .unwrap_or_else(|e| panic!("{archive}: {e}"));
         println!("cargo:rustc-link-lib=static={name}");
     }
 }
