@@ -17,6 +17,7 @@ pub mod DyadicFloat
 pub mod Matrix
 pub mod Loops
 pub mod Maps
+pub mod BothSteps
 pub mod Exchange
 pub mod Negation
 pub mod Sweep

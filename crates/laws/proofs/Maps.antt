@@ -55,6 +55,14 @@ unfolding dot
 dot-cong q v w zero e = refl
 dot-cong q v w (suc k) e = rw (dot-cong q v w k (λ j h. e j (omega arith)), e k (omega arith))
 
+-- an entry of the map's rows turns on its column's entries there, one of its columns on its row's
+module _ (o : Local) (f g : Mat) (r c : ℕ) where
+  pub rows-own : inside o r ≡ true → ((j : ℕ) → j < o .width → f (o .start + j) c ≡ g (o .start + j) c) → rows o f r c ≡ rows o g r c
+  rows-own h e = rw h (dot-cong (o .map (r - o .start)) _ _ (o .width) e)
+
+  pub cols-own : inside o c ≡ true → ((j : ℕ) → j < o .width → f r (o .start + j) ≡ g r (o .start + j)) → cols o f r c ≡ cols o g r c
+  cols-own h e = rw h (dot-cong (o .map (c - o .start)) _ _ (o .width) e)
+
 module _ (o : Local) (dim : ℕ) (band : o .start + o .width ≤ dim) where
   pub rows-within : Within dim (rows o)
   rows-within f g e r c h b =
@@ -69,47 +77,59 @@ module _ (o : Local) (dim : ℕ) (band : o .start + o .width ≤ dim) where
 abbrev pub RowsTo : Local → ℕ → List Float → ℕ → List Float → Type 0
 RowsTo o dim m₀ n m = Is dim m₀ (upTo byCol n (rows o (at dim m₀)) (at dim m₀)) m
 
+module _ (o : Local) (dim c : ℕ) (m₀ m : List Float) (g : c < dim) (band : o .start + o .width ≤ dim) (room : dim * dim ≤ length m) where
+  s : ℕ
+  s = o .start
+
+  k : ℕ
+  k = o .width
+
+  p : ℕ → ℕ
+  p i = (s + i) * dim + c
+
+  v : ℕ → Float
+  v = under k (o .map) (λ j. at dim m (s + j) c)
+
+  pub column-long : length (columnTurn o dim c m) ≡ length m
+  unfolding s k p v
+  column-long = length-stores p v m k
+
+  pub column-after : (i : ℕ) → dim * dim ≤ i → getD (columnTurn o dim c m) i nan ≡ getD m i nan
+  unfolding s k p v
+  column-after i b = stores-other p v m k i nan (λ j l e. omega (arith, e, place-in dim (s + j) c (omega arith) g))
+
+  pub column-other : (r c′ : ℕ) → r < dim → c′ < dim → c′ ≢ c → at dim (columnTurn o dim c m) r c′ ≡ at dim m r c′
+  unfolding s k p v
+  column-other r c′ h g′ ne = stores-other p v m k (r * dim + c′) nan (λ j l e. ne (col-of dim r c′ (s + j) c g′ g e))
+
+  pub column-own : ((r : ℕ) → r < dim → at dim m r c ≡ at dim m₀ r c) → (r : ℕ) → r < dim → at dim (columnTurn o dim c m) r c ≡ rows o (at dim m₀) r c
+  unfolding s k p v
+  column-own old r h = by (lt-or-le r s) (lt-or-le r (s + k))
+    where
+      away : ((j : ℕ) → j < k → r ≢ s + j) → at dim (columnTurn o dim c m) r c ≡ at dim m₀ r c
+      away ne = stores-other p v m k (r * dim + c) nan (λ j l e. ne j l (row-of dim r c (s + j) c g g e)) ∙ old r h
+
+      by : (r < s) ⊎ (s ≤ r) → (r < s + k) ⊎ (s + k ≤ r) → at dim (columnTurn o dim c m) r c ≡ rows o (at dim m₀) r c
+      by (inl l) _ = rw (inside-below o r l) (away (λ j b e. omega arith))
+      by (inr l) (inr l′) = rw (inside-above o r l′) (away (λ j b e. omega arith))
+      by (inr l) (inl l′) =
+          let e : r ≡ s + (r - s) = omega arith in
+          let b : p (r - s) < length m = le-trans (place-in dim (s + (r - s)) c (omega arith) g) room in
+          rw (inside-yes o r l l′)
+          (ap (λ n. getD (columnTurn o dim c m) (n * dim + c) nan) e
+          ∙ stores-own p v m k (r - s) nan (omega arith) b (λ j _ e. omega (arith, row-of dim (s + (r - s)) c (s + j) c g g e))
+          ∙ dot-cong (o .map (r - s)) _ _ k (λ j b. old (s + j) (omega arith)))
+
 pub rows-more : (o : Local) (dim c : ℕ) (m₀ m m′ : List Float) → c < dim → o .start + o .width ≤ dim → dim * dim ≤ length m₀
     → RowsTo o dim m₀ c m → m′ ≡ columnTurn o dim c m → RowsTo o dim m₀ (c + 1) m′
 rows-more o dim c m₀ m m′ g band room w e =
+    let room′ : dim * dim ≤ length m = rw (w .long) room in
     rw e
-    (more byCol _ _ dim c m₀ m (columnTurn o dim c m) w (length-stores p v m k) after other
-    (λ r c′ h g′ e′. rw e′ (own r h (lt-or-le r s) (lt-or-le r (s + k)))))
-  where
-    s : ℕ
-    s = o .start
-
-    k : ℕ
-    k = o .width
-
-    p : ℕ → ℕ
-    p i = (s + i) * dim + c
-
-    v : ℕ → Float
-    v = under k (o .map) (λ j. at dim m (s + j) c)
-
-    after : (i : ℕ) → dim * dim ≤ i → getD (columnTurn o dim c m) i nan ≡ getD m i nan
-    after i b = stores-other p v m k i nan (λ j l e. omega (arith, e, place-in dim (s + j) c (omega arith) g))
-
-    other : (r c′ : ℕ) → r < dim → c′ < dim → c′ ≢ c → at dim (columnTurn o dim c m) r c′ ≡ at dim m r c′
-    other r c′ h g′ ne = stores-other p v m k (r * dim + c′) nan (λ j l e. ne (col-of dim r c′ (s + j) c g′ g e))
-
-    old : (r : ℕ) → r < dim → at dim m r c ≡ at dim m₀ r c
-    old r h = w .each r c h g ∙ up-left byCol _ _ c r c (le-refl c)
-
-    away : (r : ℕ) → r < dim → ((j : ℕ) → j < k → r ≢ s + j) → at dim (columnTurn o dim c m) r c ≡ at dim m₀ r c
-    away r h ne = stores-other p v m k (r * dim + c) nan (λ j l e. ne j l (row-of dim r c (s + j) c g g e)) ∙ old r h
-
-    own : (r : ℕ) → r < dim → (r < s) ⊎ (s ≤ r) → (r < s + k) ⊎ (s + k ≤ r) → at dim (columnTurn o dim c m) r c ≡ rows o (at dim m₀) r c
-    own r h (inl l) _ = rw (inside-below o r l) (away r h (λ j b e. omega arith))
-    own r h (inr l) (inr l′) = rw (inside-above o r l′) (away r h (λ j b e. omega arith))
-    own r h (inr l) (inl l′) =
-        let e : r ≡ s + (r - s) = omega arith in
-        let b : p (r - s) < length m = rw (w .long) (le-trans (place-in dim (s + (r - s)) c (omega arith) g) room) in
-        rw (inside-yes o r l l′)
-        (ap (λ n. getD (columnTurn o dim c m) (n * dim + c) nan) e
-        ∙ stores-own p v m k (r - s) nan (omega arith) b (λ j _ e. omega (arith, row-of dim (s + (r - s)) c (s + j) c g g e))
-        ∙ dot-cong (o .map (r - s)) _ _ k (λ j b. old (s + j) (omega arith)))
+    (more byCol _ _ dim c m₀ m _ w
+    (column-long o dim c m₀ m g band room′)
+    (column-after o dim c m₀ m g band room′)
+    (column-other o dim c m₀ m g band room′)
+    (λ r c′ h g′ e′. rw e′ (column-own o dim c m₀ m g band room′ (λ r h. w .each r c h g ∙ up-left byCol _ _ c r c (le-refl c)) r h)))
 
 -- ---- the columns step: the first n rows are done
 
@@ -134,26 +154,26 @@ module _ (o : Local) (dim r : ℕ) (m₀ m : List Float) (h : r < dim) (band : o
   unfolding part rotated
   len = length-listOf (o .width) _
 
-  turn-long : length (rowTurn o dim r m) ≡ length m
+  pub row-long : length (rowTurn o dim r m) ≡ length m
   unfolding onPart a mid part
-  turn-long = length-put a (o .width) m part nan fit len
+  row-long = length-put a (o .width) m part nan fit len
 
-  turn-after : (i : ℕ) → dim * dim ≤ i → getD (rowTurn o dim r m) i nan ≡ getD m i nan
+  pub row-after : (i : ℕ) → dim * dim ≤ i → getD (rowTurn o dim r m) i nan ≡ getD m i nan
   unfolding onPart a mid part
-  turn-after i g = put-after a (o .width) m part nan fit len i (omega (arith, part-in dim r (o .start) (o .width) h band))
+  row-after i g = put-after a (o .width) m part nan fit len i (omega (arith, part-in dim r (o .start) (o .width) h band))
 
-  turn-other : (r′ c : ℕ) → r′ < dim → c < dim → r′ ≢ r → at dim (rowTurn o dim r m) r′ c ≡ at dim m r′ c
+  pub row-other : (r′ c : ℕ) → r′ < dim → c < dim → r′ ≢ r → at dim (rowTurn o dim r m) r′ c ≡ at dim m r′ c
   unfolding onPart a mid part
-  turn-other r′ c h′ g ne = by (lt-or-le r′ r) (lt-or-le r r′)
+  row-other r′ c h′ g ne = by (lt-or-le r′ r) (lt-or-le r r′)
     where
       by : (r′ < r) ⊎ (r ≤ r′) → (r < r′) ⊎ (r′ ≤ r) → at dim (rowTurn o dim r m) r′ c ≡ at dim m r′ c
       by (inl l) _ = put-before a (o .width) m part nan fit len (r′ * dim + c) (omega (arith, suc-mul r′ dim, mul-le-mul-right {m = suc r′} dim l))
       by (inr _) (inl l) = put-after a (o .width) m part nan fit len (r′ * dim + c) (omega (arith, suc-mul r dim, mul-le-mul-right {m = suc r} dim l))
       by (inr l) (inr l′) = absurd (ne (omega arith))
 
-  turn-own : ((c : ℕ) → c < dim → at dim m r c ≡ at dim m₀ r c) → (c : ℕ) → c < dim → at dim (rowTurn o dim r m) r c ≡ cols o (at dim m₀) r c
+  pub row-own : ((c : ℕ) → c < dim → at dim m r c ≡ at dim m₀ r c) → (c : ℕ) → c < dim → at dim (rowTurn o dim r m) r c ≡ cols o (at dim m₀) r c
   unfolding onPart a mid part rotated
-  turn-own old c g = by (lt-or-le c s) (lt-or-le c (s + k))
+  row-own old c g = by (lt-or-le c s) (lt-or-le c (s + k))
     where
       s : ℕ
       s = o .start
@@ -183,7 +203,7 @@ cols-more o dim r m₀ m m′ h band room w e =
     let room′ : dim * dim ≤ length m = rw (w .long) room in
     rw e
     (more byRow _ _ dim r m₀ m _ w
-    (turn-long o dim r m₀ m h band room′)
-    (turn-after o dim r m₀ m h band room′)
-    (turn-other o dim r m₀ m h band room′)
-    (λ r′ c h′ g e′. rw e′ (turn-own o dim r m₀ m h band room′ (λ c g. w .each r c h g ∙ up-left byRow _ _ r r c (le-refl r)) c g)))
+    (row-long o dim r m₀ m h band room′)
+    (row-after o dim r m₀ m h band room′)
+    (row-other o dim r m₀ m h band room′)
+    (λ r′ c h′ g e′. rw e′ (row-own o dim r m₀ m h band room′ (λ c g. w .each r c h g ∙ up-left byRow _ _ r r c (le-refl r)) c g)))

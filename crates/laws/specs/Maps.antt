@@ -51,3 +51,7 @@ rotated k q v = listOf k (under k q (λ j. getD v j nan))
 -- row r: the entries in the map's columns are one part of the list
 abbrev pub rowTurn : Local → ℕ → ℕ → List Float → List Float
 rowTurn o dim r m = onPart (r * dim + o .start) (o .width) (rotated (o .width) (o .map)) m
+
+-- the columns k and k + 1, then the rows k and k + 1
+abbrev pub pairTurn : Local → ℕ → ℕ → List Float → List Float
+pairTurn o dim k m = rowTurn o dim (k + 1) (rowTurn o dim k (columnTurn o dim (k + 1) (columnTurn o dim k m)))

@@ -11,6 +11,7 @@ use Rattle.laws.specs.Zeros.{+0, +1, sg}
 use Rattle.laws.specs.Slices.{onPart}
 use Rattle.laws.specs.Matrix.{at, matrix}
 use Rattle.laws.specs.Maps.{Local, inside, rows, cols}
+use Rattle.laws.proofs.Matrix.{matrix-then}
 use Rattle.laws.proofs.Maps.{rows-within, cols-within}
 use Rattle.real.specs.Maps.{local2, local4}
 use Rattle.state.specs.Bounds.{statePlaces, dimOf}
@@ -23,17 +24,23 @@ use Rattle.state.specs.declared.operation.Operation.{Operation}
 use Rattle.state.specs.declared.operation.Operation.the-variants.{One, Two, Interaction}
 use Rattle.state.proofs.Stored.{Alike, is-stored, stored-is, is-then, alike-is, read-back, matrix-step, turn-step}
 
--- ---- the phases: settled, rows, columns, and the turn or none
+-- ---- the phases: settled, rows and columns, and the turn or none
 
-module _ (isOdd : Local → Bool) (o : Local) (dim : ℕ) (s₀ s₁ s₂ s₃ : List Float) (room : statePlaces dim ≤ length s₀)
+-- the rows step of a state, and the columns step of what it left
+pub both-steps : (o : Local) (dim : ℕ) (t : State) (s₀ s₁ s₂ s₃ : List Float) → statePlaces dim ≤ length s₀ → o .start + o .width ≤ dim
+    → s₁ ≡ stored dim t s₀ → s₂ ≡ matrix dim (rows o (at dim s₁)) s₁ → s₃ ≡ matrix dim (cols o (at dim s₂)) s₂
+    → s₃ ≡ matrix dim (cols o (rows o (at dim s₁))) s₁
+both-steps o dim t s₀ s₁ s₂ s₃ room band e₁ e₂ e₃ =
+    matrix-then dim s₁ s₂ s₃ (rows o (at dim s₁)) (cols o) (omega (arith, room, stored-is dim s₀ t s₁ room e₁ .long)) (cols-within o dim band) e₂ e₃
+
+module _ (isOdd : Local → Bool) (o : Local) (dim : ℕ) (s₀ s₁ s₃ : List Float) (room : statePlaces dim ≤ length s₀)
     (band : o .start + o .width ≤ dim)
-    (e₁ : s₁ ≡ stored dim (settledState o (stateAt dim s₀)) s₀) (e₂ : s₂ ≡ matrix dim (rows o (at dim s₁)) s₁) (e₃ : s₃ ≡ matrix dim (cols o
-    (at dim s₂)) s₂) where
+    (e₁ : s₁ ≡ stored dim (settledState o (stateAt dim s₀)) s₀) (e₃ : s₃ ≡ matrix dim (cols o (rows o (at dim s₁))) s₁) where
   moved : Stored dim s₀ (record { m = cols o (rows o (settled o (stateAt dim s₀))); d = calm o (stateAt dim s₀ .d) }) s₃
   moved =
-      let w₁ = stored-is dim s₀ (settledState o (stateAt dim s₀)) s₁ room e₁ in
-      let w₂ = matrix-step dim s₀ s₁ s₂ (settledState o (stateAt dim s₀)) (rows o) room (rows-within o dim band) w₁ e₂ in
-      matrix-step dim s₀ s₂ s₃ _ (cols o) room (cols-within o dim band) w₂ e₃
+      matrix-step dim s₀ s₁ s₃ (settledState o (stateAt dim s₀)) (λ f. cols o (rows o f)) room
+      (λ f g e. cols-within o dim band (rows o f) (rows o g) (rows-within o dim band f g e))
+      (stored-is dim s₀ (settledState o (stateAt dim s₀)) s₁ room e₁) e₃
 
   pub step-turned : (s₄ : List Float) → isOdd o ≡ true → s₄ ≡ onPart (dim * dim + (o .start + o .width)) (dim - (o .start + o .width)) (map neg) s₃
       → s₄ ≡ stored dim (step isOdd o (stateAt dim s₀)) s₀

@@ -21,7 +21,7 @@ pub fn apply_operation(n: usize, state: &mut [f64], o: Operation)
     ensures { λ _. ⌜ now (state .exit) ≡ applied n o (now (state .entry)) ⌝ }
 {
     match o {
-        Operation::One { mode, q } => apply_local2(state, 2 * n, 2 * mode, q),
+        Operation::One { mode, q } => apply_local2(state, n, mode, q),
         Operation::Two { mode, q } => apply_local4(state, 2 * n, 2 * mode, q),
         Operation::Interaction {
             mode: _,

@@ -5,7 +5,7 @@ ghost use Prim.Native.Nat.{_+_, _*_};
 ghost use lib.ListN.{length};
 ghost use Rattle.laws.specs.Matrix.{at, matrix, Holds};
 ghost use Rattle.laws.specs.Maps.{dot, rotated, cols};
-ghost use Rattle.real.specs.Maps.{row2, row4, entry2, entry4, local2, local4};
+ghost use Rattle.real.specs.Maps.{row2, row4, entry2, entry4, local4};
 use real::Map2;
 use real::Map4;
 use real::Real2;
@@ -25,7 +25,7 @@ pub fn dot4(q: Real4, v: Real4) -> f64
 }
 
 // A row's part under the map.
-fn rotate2(row: &mut [f64], q: Map2)
+pub fn rotate2(row: &mut [f64], q: Map2)
     requires { ⌜ length (now row) ≡ 2 ⌝ }
     ensures { λ _. ⌜ now (row .exit) ≡ rotated 2 (entry2 q) (now (row .entry)) ⌝ }
 {
@@ -54,18 +54,6 @@ fn rotate4(row: &mut [f64], q: Map4)
 }
 
 // In each row the map's columns, from s on, are put under the map.
-pub fn columns2(m: &mut [f64], dim: usize, s: usize, q: Map2)
-    requires { ⌜ Holds (now m) dim s 2 ⌝ }
-    ensures { λ _. ⌜ now (m .exit) ≡ matrix dim (cols (local2 s q) (at dim (now (m .entry)))) (now (m .entry)) ⌝ }
-{
-    let mut r = 0;
-    while r < dim {
-        let a = r * dim + s;
-        rotate2(&mut m[a..a + 2], q);
-        r += 1;
-    }
-}
-
 pub fn columns4(m: &mut [f64], dim: usize, s: usize, q: Map4)
     requires { ⌜ Holds (now m) dim s 4 ⌝ }
     ensures { λ _. ⌜ now (m .exit) ≡ matrix dim (cols (local4 s q) (at dim (now (m .entry)))) (now (m .entry)) ⌝ }

@@ -2,16 +2,16 @@
 // indices, and where the determinant is below zero the sign of every later index turns.
 
 ghost use mathlib.Core.Path.{_≡_};
+ghost use Prim.Native.Nat.{_*_};
 ghost use Rattle.real.specs.Maps.{local2, local4};
 ghost use Rattle.state.specs.State.{stateAt, stored};
 ghost use Rattle.state.specs.Det.{odd};
 ghost use Rattle.state.specs.Apply.{step};
 ghost use Rattle.state.specs.Parts.{HasBand};
-use super::columns::columns2;
+use super::both::both2;
 use super::columns::columns4;
 use super::det::det2;
 use super::det::det4;
-use super::rows::rows2;
 use super::rows::rows4;
 use super::signs::settle;
 use super::signs::settle4;
@@ -19,13 +19,14 @@ use super::signs::turn_from;
 use real::Map2;
 use real::Map4;
 
-pub fn apply_local2(state: &mut [f64], dim: usize, s: usize, q: Map2)
-    requires { ⌜ HasBand (now state) dim s 2 ⌝ }
-    ensures { λ _. ⌜ now (state .exit) ≡ stored dim (step odd (local2 s q) (stateAt dim (now (state .entry)))) (now (state .entry)) ⌝ }
+pub fn apply_local2(state: &mut [f64], n: usize, mode: usize, q: Map2)
+    requires { ⌜ HasBand (now state) (2 * n) (2 * mode) 2 ⌝ }
+    ensures { λ _. ⌜ now (state .exit) ≡ stored (2 * n) (step odd (local2 (2 * mode) q) (stateAt (2 * n) (now (state .entry)))) (now (state .entry)) ⌝ }
 {
+    let dim = 2 * n;
+    let s = 2 * mode;
     settle(state, dim, s, 2);
-    rows2(state, dim, s, q);
-    columns2(state, dim, s, q);
+    both2(state, n, mode, q);
     if det2(q) < 0.0 {
         turn_from(state, dim, s + 2);
     }

@@ -8,12 +8,6 @@ use Rattle.state.proofs.Operations.{fits-one, fits-two}
 use Rattle.state.proofs.application.apply_operation.Statement.{statement}
 use Rattle.state.proofs.application.apply_operation.Tie as tie
 
-mul-apply-local2-2 : tie.Need-mul-apply-local2-2
-mul-apply-local2-2 c =
-    let o = c .before .before in
-    let e = o .before .before .before in
-    omega (arith, fits-one (e .args .n) (e .args .o) _ _ (o .o .given .1) (e .pre .1), e .pre .0 .room)
-
 apply-local2-requires : tie.Need-apply-local2-requires
 apply-local2-requires c κs =
     let o = c .before .before in
@@ -51,8 +45,6 @@ apply-operation-spec =
     tie.close
     (tie.spec
     (λ c. search needs)
-    (λ c. search needs)
-    mul-apply-local2-2
     apply-local2-requires
     (λ c. search needs)
     (λ c. search needs)

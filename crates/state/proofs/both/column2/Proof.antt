@@ -1,7 +1,7 @@
--- `state::rows::column2` meets its contract, entry by entry. Assumes nothing.
+-- `state::both::column2` meets its contract, entry by entry. Assumes nothing.
 use borrow.Author.Needs.{needs}
-use Rattle.state.proofs.rows.column2.Statement.{statement}
-use Rattle.state.proofs.rows.column2.Tie as tie
+use Rattle.state.proofs.both.column2.Statement.{statement}
+use Rattle.state.proofs.both.column2.Tie as tie
 
 returns : tie.Need-returns
 returns c = rw (c .entry2 .ensures, c .before .entry .ensures)

@@ -1,6 +1,6 @@
--- `state::rows::mapped2` meets its contract, row by row. Assumes nothing.
-use Rattle.state.proofs.rows.mapped2.Statement.{statement}
-use Rattle.state.proofs.rows.mapped2.Tie as tie
+-- `state::both::mapped2` meets its contract, row by row. Assumes nothing.
+use Rattle.state.proofs.both.mapped2.Statement.{statement}
+use Rattle.state.proofs.both.mapped2.Tie as tie
 
 returns : tie.Need-returns
 returns c = rw (c .dot22 .ensures, c .before .dot2 .ensures)
