@@ -20,7 +20,7 @@ use Rattle.gate.specs.declared.complex.Complex.{Complex}
 use Rattle.gate.specs.declared.matrix.Mat2.{Mat2}
 use Rattle.gate.specs.declared.matrix.Mat4.{Mat4}
 use Rattle.majorana.specs.Majorana.{majoranaMap1Of, majoranaMap2Of}
-use Rattle.majorana.specs.Diagonal.{unitOf, rotationMapOf}
+use Rattle.classify.specs.Diagonal.{unitOf, rotationMapOf}
 use Rattle.monomial.specs.Monomial.{unit, IsEntry, flip, Mono2, Mono4, Has2, Has4, bitA, bitB, IsMatchgate}
 use Rattle.monomial.specs.Basis.{basis}
 use Rattle.monomial.proofs.States.{fits-state, single-state, rotation-state}

@@ -9,7 +9,7 @@ use lib.Ieee.{Float}
 use Rattle.laws.specs.Lists.{All}
 use Rattle.laws.specs.Bounds.{maxQubits}
 use Rattle.gate.specs.declared.matrix.Mat4.{Mat4}
-use Rattle.majorana.specs.Diagonal.{interactionOf, unitOf}
+use Rattle.classify.specs.Diagonal.{interactionOf, unitOf}
 use Rattle.monomial.specs.Monomial.{Mono4, Has4}
 use Rattle.monomial.proofs.Diagonals.{diagonal}
 use Rattle.resolve.specs.Items.{Item, one, two, opaque}

@@ -8,9 +8,9 @@ use Rattle.laws.specs.Phase.{Phase, i0, _⊕_, minus}
 use Rattle.laws.proofs.Phases.{eqPhase}
 use Rattle.gate.specs.declared.complex.Complex.{Complex}
 use Rattle.gate.specs.declared.matrix.Mat4.{Mat4}
-use Rattle.majorana.specs.Diagonal.{phaseAOf, phaseBOf, unitOf, rotationOf, rotationMapOf}
-use Rattle.majorana.specs.declared.diagonal.Rotation.{Rotation}
-use Rattle.majorana.specs.declared.diagonal.Rotation.the-variants.{By, Nothing}
+use Rattle.classify.specs.Diagonal.{phaseAOf, phaseBOf, unitOf, rotationOf, rotationMapOf}
+use Rattle.classify.specs.declared.diagonal.Rotation.{Rotation}
+use Rattle.classify.specs.declared.diagonal.Rotation.the-variants.{By, Nothing}
 use Rattle.monomial.specs.Groups.{Four, four, Mat4Of}
 use Rattle.monomial.specs.Monomial.{IsEntry, unit, Mono4, Has4, entries4}
 use Rattle.monomial.proofs.Diagonals.{diagonal, phase-a, phase-b}

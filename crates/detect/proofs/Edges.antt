@@ -35,11 +35,12 @@ use Rattle.majorana.specs.Majorana.{
   mapRow4Of,
   mapDistance4Of,
   majoranaMap2Of,
+  swap4Of,
 }
-use Rattle.majorana.specs.Diagonal.{plusThreeOf, offSquareOf, offdiag4Of, interactionOf, phaseNoneOf}
-use Rattle.majorana.specs.Classify.{diagonalOf, withoutPhaseOf, residual2Of, swap4Of, class2, plainOf, fallbackOf, swappedOf, classify2Of}
-use Rattle.majorana.specs.declared.classify.Class2.{Class2}
-use Rattle.majorana.specs.declared.classify.Kind2.the-variants.{Interaction, Match}
+use Rattle.classify.specs.Diagonal.{plusThreeOf, offSquareOf, offdiag4Of, interactionOf, phaseNoneOf}
+use Rattle.classify.specs.Classify.{diagonalOf, withoutPhaseOf, residual2Of, class2, plainOf, fallbackOf, swappedOf, classify2Of}
+use Rattle.classify.specs.declared.classify.Class2.{Class2}
+use Rattle.classify.specs.declared.classify.Kind2.the-variants.{Interaction, Match}
 use Rattle.order.specs.declared.choice.Ordering.{Ordering}
 use Rattle.order.specs.Arrangement.{find}
 use Rattle.order.specs.Choice.{Arrangement, chooseOrderOf}

@@ -18,12 +18,12 @@ use Rattle.gate.specs.declared.matrix.Mat4.{Mat4}
 use Rattle.work.specs.Marks.{markAt}
 use Rattle.work.specs.Columns.{kindColumn, aColumn, bColumn, matchItem, diagonalItem, interactionItem}
 use Rattle.fuse.specs.Layout.{matrix4Of}
-use Rattle.majorana.specs.Diagonal.{phaseAOf, phaseBOf, interactionOf, unitOf, rotationOf}
 use Rattle.majorana.specs.Majorana.{majoranaMap1Of, majoranaMap2Of}
 use Rattle.majorana.specs.Numbers.{commutesJ2Of}
-use Rattle.majorana.specs.declared.diagonal.Rotation.{Rotation}
-use Rattle.majorana.specs.declared.diagonal.Rotation.the-variants.{By, Nothing}
 use Rattle.majorana.specs.declared.maps.Mapped2.{Mapped2}
+use Rattle.classify.specs.Diagonal.{phaseAOf, phaseBOf, interactionOf, unitOf, rotationOf}
+use Rattle.classify.specs.declared.diagonal.Rotation.{Rotation}
+use Rattle.classify.specs.declared.diagonal.Rotation.the-variants.{By, Nothing}
 use Rattle.order.specs.Arrangement.{besideOf}
 use Rattle.resolve.specs.Items as Items
 use Rattle.resolve.specs.Items.{Item, ItemBelow, ItemsBelow}

@@ -12,11 +12,11 @@ use Rattle.gate.specs.declared.matrix.Mat4.{Mat4}
 use Rattle.work.specs.Columns.{matchItem, diagonalItem, interactionItem}
 use Rattle.order.specs.Arrangement.{besideOf}
 use Rattle.majorana.specs.Majorana.{majoranaMap1Of, majoranaMap2Of}
-use Rattle.majorana.specs.Diagonal.{phaseAOf, phaseBOf, rotationOf}
 use Rattle.majorana.specs.Numbers.{commutesJ2Of}
-use Rattle.majorana.specs.declared.diagonal.Rotation.{Rotation}
-use Rattle.majorana.specs.declared.diagonal.Rotation.the-variants.{By, Nothing}
 use Rattle.majorana.specs.declared.maps.Mapped2.{Mapped2}
+use Rattle.classify.specs.Diagonal.{phaseAOf, phaseBOf, rotationOf}
+use Rattle.classify.specs.declared.diagonal.Rotation.{Rotation}
+use Rattle.classify.specs.declared.diagonal.Rotation.the-variants.{By, Nothing}
 use Rattle.resolve.specs.Items as Items
 use Rattle.resolve.specs.Items.{Item}
 use Rattle.detect.specs.declared.count.Counts.{Counts}

@@ -10,9 +10,9 @@ use Rattle.gate.specs.Matrix.{mat4SwapQubitsOf}
 use Rattle.gate.specs.declared.matrix.Mat4.{Mat4}
 use Rattle.work.specs.Columns.{matchItem, diagonalItem, interactionItem}
 use Rattle.majorana.specs.Majorana.{majoranaMap1Of, majoranaMap2Of}
-use Rattle.majorana.specs.Diagonal.{phaseAOf, phaseBOf, interactionOf, unitOf, rotationOf}
-use Rattle.majorana.specs.declared.diagonal.Rotation.{Rotation}
-use Rattle.majorana.specs.declared.diagonal.Rotation.the-variants.{By, Nothing}
+use Rattle.classify.specs.Diagonal.{phaseAOf, phaseBOf, interactionOf, unitOf, rotationOf}
+use Rattle.classify.specs.declared.diagonal.Rotation.{Rotation}
+use Rattle.classify.specs.declared.diagonal.Rotation.the-variants.{By, Nothing}
 use Rattle.resolve.specs.Items as Items
 use Rattle.resolve.specs.Items.{Item}
 use Rattle.detect.specs.Records.{recordItem, itemsIn, modesIn}

@@ -20,9 +20,9 @@ use Rattle.tape.specs.declared.header.Header.{Header}
 use Rattle.tape.specs.declared.gates.Gate.{Gate}
 use Rattle.work.specs.Columns.{matchItem, diagonalItem, interactionItem}
 use Rattle.majorana.specs.Majorana.{majoranaMap2Of}
-use Rattle.majorana.specs.Diagonal.{phaseAOf, phaseBOf, interactionOf, unitOf, rotationOf}
-use Rattle.majorana.specs.declared.diagonal.Rotation.{Rotation}
-use Rattle.majorana.specs.declared.diagonal.Rotation.the-variants.{By, Nothing}
+use Rattle.classify.specs.Diagonal.{phaseAOf, phaseBOf, interactionOf, unitOf, rotationOf}
+use Rattle.classify.specs.declared.diagonal.Rotation.{Rotation}
+use Rattle.classify.specs.declared.diagonal.Rotation.the-variants.{By, Nothing}
 use Rattle.order.specs.Arrangement.{absDiffOf, besideOf}
 use Rattle.order.proofs.Permutation.{order-permutes}
 use Rattle.resolve.specs.Items as Items

@@ -10,9 +10,9 @@ use Rattle.gate.specs.declared.matrix.Mat4.{Mat4}
 use Rattle.real.specs.declared.maps.Real4.{Real4}
 use Rattle.majorana.specs.declared.maps.Mapped2.{Mapped2}
 use Rattle.majorana.specs.declared.maps.Mapped4.{Mapped4}
-use Rattle.majorana.specs.declared.classify.Kind2.{Kind2}
-use Rattle.majorana.specs.declared.classify.Kind2.the-variants.{Diag, Interaction, Match, NonGaussian}
-use Rattle.majorana.specs.declared.classify.Class2.{Class2}
+use Rattle.classify.specs.declared.classify.Kind2.{Kind2}
+use Rattle.classify.specs.declared.classify.Kind2.the-variants.{Diag, Interaction, Match, NonGaussian}
+use Rattle.classify.specs.declared.classify.Class2.{Class2}
 
 unfoldable pub flat2Of : Mapped2 → Mat2
 flat2Of m = mat2 (cx (m .q .r0 .x0) (m .q .r0 .x1)) (cx (m .q .r1 .x0) (m .q .r1 .x1)) (cx (m .residual) f0) c0

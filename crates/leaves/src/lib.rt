@@ -10,16 +10,16 @@ ghost use Rattle.num.specs.Order.{absOf, maxOf, minOf, clampOf};
 ghost use Rattle.num.specs.Bits.{bitsOf};
 ghost use Rattle.gate.specs.Matrix.{mul2Of, dag2Of, kronOf, mul4Of, dag4Of, mat4SwapQubitsOf};
 ghost use Rattle.majorana.specs.Majorana.{majoranaMap1Of, majoranaMap2Of};
-ghost use Rattle.majorana.specs.Classify.{classify2Of, residualOf};
+ghost use Rattle.classify.specs.Classify.{classify2Of, residualOf};
 ghost use Rattle.leaves.specs.Slices.{first2Of, first4Of, put2Of, put4Of};
 ghost use Rattle.leaves.specs.Classes.{flat2Of, joinedOf, flat4Of, kindCodeOf, codeOf};
+use classify::Class2;
+use classify::Kind2;
 use gate::Complex;
 use gate::Mat2;
 use gate::Mat4;
 use gate::Row2;
 use gate::Row4;
-use majorana::Class2;
-use majorana::Kind2;
 use majorana::Mapped2;
 use majorana::Mapped4;
 use real::Real4;
@@ -267,7 +267,7 @@ pub extern "C" fn leaf_classify2(relabel: bool, tol: f64, u: &[f64], out: &mut [
     ensures number { λ r. ⌜ r ≡ codeOf (classify2Of relabel tol (first4Of (now (u .entry)))) ⌝ }
     ensures matrix { λ _. ⌜ now (out .exit) ≡ put4Of (now (out .entry)) (classify2Of relabel tol (first4Of (now (u .entry))) .v) ⌝ }
 {
-    let c = majorana::classify2(relabel, tol, first4(u));
+    let c = classify::classify2(relabel, tol, first4(u));
     put4(out, c.v);
     code(c)
 }
@@ -277,7 +277,7 @@ pub extern "C" fn leaf_classify2(relabel: bool, tol: f64, u: &[f64], out: &mut [
 pub extern "C" fn leaf_class_residual(relabel: bool, tol: f64, u: &[f64]) -> f64
     ensures { λ r. ⌜ r ≡ residualOf (classify2Of relabel tol (first4Of (now (u .entry))) .kind) ⌝ }
 {
-    let c = majorana::classify2(relabel, tol, first4(u));
+    let c = classify::classify2(relabel, tol, first4(u));
     let k = c.kind;
-    majorana::residual(k)
+    classify::residual(k)
 }

@@ -1,5 +1,3 @@
 -- Laws on the definitions of `majorana`, for its proofs and for other crates to cite.
 pub mod Entries
 pub mod OneRoot
-pub mod Norms
-mod Examples

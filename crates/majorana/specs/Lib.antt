@@ -1,7 +1,5 @@
 -- What the contracts of `majorana` speak of. Definitions only.
 pub mod Majorana
-pub mod Diagonal
-pub mod Classify
 pub mod Numbers
 -- of the inner functions
 pub mod Parts

@@ -10,7 +10,7 @@ use Rattle.num.specs.Order.{maxOf}
 use Rattle.num.specs.Root.{sqrtOf}
 use Rattle.gate.specs.Complex.{_+ℂ_, _-ℂ_, _*ℂ_, scaleOf, normSqrOf, f0, f2, c0}
 use Rattle.gate.specs.Matrix.{row4, mat4, id2, mul2Of, dag2Of, kronOf, mul4Of, dag4Of}
-use Rattle.gate.specs.Table.{gateX, gateY, gateZ}
+use Rattle.gate.specs.Table.{gateX, gateY, gateZ, gateSwap}
 use Rattle.gate.specs.declared.complex.Complex.{Complex}
 use Rattle.gate.specs.declared.matrix.Row2.{Row2}
 use Rattle.gate.specs.declared.matrix.Mat2.{Mat2}
@@ -169,3 +169,9 @@ majoranaMap2Of u = record {
   q = map4 (mapRow4Of majorana0 u) (mapRow4Of majorana1 u) (mapRow4Of majorana2 u) (mapRow4Of majorana3 u);
   residual = largestRootOf f0 (mapDistance4Of majorana0 u ∷ mapDistance4Of majorana1 u ∷ mapDistance4Of majorana2 u ∷ mapDistance4Of majorana3 u ∷ []);
 }
+
+-- ---- a block whose wires change places
+
+-- SWAP · u
+unfoldable pub swap4Of : Mat4 → Mat4
+swap4Of u = mul4Of gateSwap u

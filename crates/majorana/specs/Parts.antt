@@ -1,10 +1,8 @@
 -- The words of the contracts of the inner functions: forms that cost less than the definitions, and are equal to them. Assumes nothing.
-use mathlib.Core.Bool.{Bool, _&&_}
 use mathlib.Core.List.{List, [], _∷_}
-use lib.Ieee.{Float, binary64, add, sub, mul, lt}
-use lib.Ieee.Scale.{finite}
+use lib.Ieee.{Float, binary64, add, sub, mul}
 use Rattle.num.specs.Order.{maxOf}
-use Rattle.gate.specs.Complex.{_+ℂ_, _*ℂ_, f0, c0}
+use Rattle.gate.specs.Complex.{_+ℂ_, _*ℂ_, c0}
 use Rattle.gate.specs.Matrix.{row4}
 use Rattle.gate.specs.declared.complex.Complex.{Complex}
 use Rattle.gate.specs.declared.matrix.Row2.{Row2}
@@ -49,9 +47,3 @@ fitted4Of w = record { q = coefficients4Of w; d = distance4Of w (coefficients4Of
 unfoldable pub largestOf : Float → List Float → Float
 largestOf s [] = s
 largestOf s (x ∷ xs) = largestOf (maxOf s x) xs
-
--- ---- units
-
--- "finite and above zero"
-unfoldable pub divisorOf : Float → Bool
-divisorOf r = lt f0 r && finite r

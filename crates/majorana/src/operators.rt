@@ -1,8 +1,7 @@
 // The Majorana operators of two modes, and products by them and by SWAP.
 ghost use mathlib.Core.Path.{_≡_};
 ghost use Rattle.gate.specs.Matrix.{mul4Of};
-ghost use Rattle.majorana.specs.Majorana.{majorana0, majorana1, majorana2, majorana3};
-ghost use Rattle.majorana.specs.Classify.{swap4Of};
+ghost use Rattle.majorana.specs.Majorana.{majorana0, majorana1, majorana2, majorana3, swap4Of};
 ghost use Rattle.majorana.specs.Parts.{scaledOf};
 use gate::Complex;
 use gate::Mat4;

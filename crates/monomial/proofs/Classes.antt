@@ -9,9 +9,10 @@ use Rattle.num.specs.Order.{minOf}
 use Rattle.gate.specs.Complex.{f0, f1}
 use Rattle.gate.specs.Table.{gateSwap}
 use Rattle.gate.specs.declared.matrix.Mat4.{Mat4}
-use Rattle.majorana.specs.declared.classify.Kind2.the-variants.{Diag, Interaction, Match, NonGaussian}
-use Rattle.majorana.specs.Diagonal.{interactionOf, phaseNoneOf}
-use Rattle.majorana.specs.Classify.{diagonalOf, withoutPhaseOf, residual2Of, swap4Of, class2, plainOf, fallbackOf, swappedOf, classify2Of}
+use Rattle.majorana.specs.Majorana.{swap4Of}
+use Rattle.classify.specs.declared.classify.Kind2.the-variants.{Diag, Interaction, Match, NonGaussian}
+use Rattle.classify.specs.Diagonal.{interactionOf, phaseNoneOf}
+use Rattle.classify.specs.Classify.{diagonalOf, withoutPhaseOf, residual2Of, class2, plainOf, fallbackOf, swappedOf, classify2Of}
 use Rattle.monomial.specs.Groups.{Four, four, Mat4Of}
 use Rattle.monomial.specs.Monomial.{IsEntry, unit, flip, Mono4, entries4, Has4, bitA, bitB, wOf, matchgatePhase, IsMatchgate, SwappedMatchgate}
 use Rattle.monomial.specs.Algebra.{times4, Even, monoSwap}

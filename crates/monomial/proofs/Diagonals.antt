@@ -21,8 +21,8 @@ use Rattle.num.proofs.Alike.{abs-dy}
 use Rattle.gate.specs.Complex.{_*ℂ_, conjOf, normSqrOf, cx, f0, f1, c1, f2}
 use Rattle.gate.specs.declared.complex.Complex.{Complex}
 use Rattle.gate.specs.declared.matrix.Mat4.{Mat4}
-use Rattle.majorana.specs.Diagonal.{plusThreeOf, offSquareOf, offdiag4Of, phaseAOf, phaseBOf, interactionOf, phaseNoneOf, normOf, unitOf}
-use Rattle.majorana.specs.Classify.{diagonalOf}
+use Rattle.classify.specs.Diagonal.{plusThreeOf, offSquareOf, offdiag4Of, phaseAOf, phaseBOf, interactionOf, phaseNoneOf, normOf, unitOf}
+use Rattle.classify.specs.Classify.{diagonalOf}
 use Rattle.monomial.specs.Groups.{Four, four, Mat4Of}
 use Rattle.monomial.specs.Monomial.{Entry, unit, IsEntry, Mono4, entries4, entriesOf, Has4, wOf}
 use Rattle.monomial.specs.Tolerance.{Tolerance}

@@ -11,10 +11,10 @@ use Rattle.gate.specs.Complex.{cx, f0, f1, c0, c1}
 use Rattle.gate.specs.Matrix.{row4, mat4, kronOf}
 use Rattle.gate.specs.Table.{ci, gateX, gateY, gateCz, gateSwap, gateISwap}
 use Rattle.gate.specs.declared.matrix.Mat4.{Mat4}
-use Rattle.majorana.specs.Majorana.{majoranaMap1Of, majoranaMap2Of}
-use Rattle.majorana.specs.Diagonal.{offdiag4Of}
-use Rattle.majorana.specs.Classify.{class2, swap4Of, classify2Of}
-use Rattle.majorana.specs.declared.classify.Kind2.the-variants.{Diag, Interaction, Match, NonGaussian}
+use Rattle.majorana.specs.Majorana.{majoranaMap1Of, majoranaMap2Of, swap4Of}
+use Rattle.classify.specs.Diagonal.{offdiag4Of}
+use Rattle.classify.specs.Classify.{class2, classify2Of}
+use Rattle.classify.specs.declared.classify.Kind2.the-variants.{Diag, Interaction, Match, NonGaussian}
 use Rattle.monomial.specs.Groups.{two, four}
 use Rattle.monomial.specs.Monomial.{Mono4, Has4, bitA, bitB}
 use Rattle.monomial.specs.Basis.{basis, bits, Signed, unitAt}

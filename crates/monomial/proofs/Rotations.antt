@@ -17,8 +17,8 @@ use Rattle.laws.proofs.Phases.{everyPhase, at-phase, eqPhase}
 use Rattle.real.specs.Maps.{entry2, local2}
 use Rattle.gate.specs.Complex.{f0}
 use Rattle.gate.specs.declared.complex.Complex.{Complex}
-use Rattle.majorana.specs.Diagonal.{unitOf, turnsOf, rotationMapOf, rotationOf}
-use Rattle.majorana.specs.declared.diagonal.Rotation.the-variants.{By, Nothing}
+use Rattle.classify.specs.Diagonal.{unitOf, turnsOf, rotationMapOf, rotationOf}
+use Rattle.classify.specs.declared.diagonal.Rotation.the-variants.{By, Nothing}
 use Rattle.monomial.specs.Monomial.{unit, IsEntry}
 use Rattle.monomial.specs.Basis.{basis, Block, Signed, unitAt, rowZ, Permutes, permuted}
 use Rattle.monomial.proofs.Known.{eqZ→}

@@ -11,10 +11,10 @@ use Rattle.laws.specs.Views.{upFrom}
 use Rattle.gate.specs.Matrix.{kronOf, mul4Of}
 use Rattle.gate.specs.declared.matrix.Mat2.{Mat2}
 use Rattle.gate.specs.declared.matrix.Mat4.{Mat4}
-use Rattle.majorana.specs.Classify.{classify2Of, rankOf}
-use Rattle.majorana.specs.declared.classify.Class2.{Class2}
-use Rattle.majorana.specs.declared.classify.Kind2.{Kind2}
-use Rattle.majorana.specs.declared.classify.Kind2.the-variants.{Diag, Interaction, Match, NonGaussian}
+use Rattle.classify.specs.Classify.{classify2Of, rankOf}
+use Rattle.classify.specs.declared.classify.Class2.{Class2}
+use Rattle.classify.specs.declared.classify.Kind2.{Kind2}
+use Rattle.classify.specs.declared.classify.Kind2.the-variants.{Diag, Interaction, Match, NonGaussian}
 use Rattle.resolve.specs.declared.choose.Choice.{Choice}
 use Rattle.resolve.specs.declared.choose.Search.{Search}
 use Rattle.resolve.specs.Cuts.{inWindow, keep, cuts}

@@ -9,9 +9,10 @@ use Rattle.laws.specs.Phase.{Phase, i0, i2}
 use Rattle.laws.proofs.Phases.{eqPhase}
 use Rattle.gate.specs.Complex.{f0, f1}
 use Rattle.gate.specs.declared.matrix.Mat4.{Mat4}
-use Rattle.majorana.specs.Classify.{class2, classify2Of, swap4Of}
-use Rattle.majorana.specs.declared.classify.Kind2.{Kind2}
-use Rattle.majorana.specs.declared.classify.Kind2.the-variants.{Diag, Interaction, Match, NonGaussian}
+use Rattle.majorana.specs.Majorana.{swap4Of}
+use Rattle.classify.specs.Classify.{class2, classify2Of}
+use Rattle.classify.specs.declared.classify.Kind2.{Kind2}
+use Rattle.classify.specs.declared.classify.Kind2.the-variants.{Diag, Interaction, Match, NonGaussian}
 use Rattle.monomial.specs.Monomial.{flip, Mono4, Has4, wOf, matchgatePhase, IsMatchgate, SwappedMatchgate}
 use Rattle.monomial.specs.Algebra.{Even}
 use Rattle.monomial.specs.Tolerance.{Tolerance}

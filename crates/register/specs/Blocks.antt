@@ -16,8 +16,8 @@ use Rattle.tape.specs.declared.gates.Gate.the-variants.{One, Two, Three}
 use Rattle.monomial.specs.Monomial.{Mono2, Mono4, Has2, Has4, bitA, bitB, IsMatchgate, SwappedMatchgate}
 use Rattle.monomial.specs.Algebra.{times4, kron4, renamed, Even}
 use Rattle.monomial.proofs.Diagonals.{diagonal}
-use Rattle.majorana.specs.Classify.{classify2Of}
-use Rattle.majorana.specs.declared.classify.Class2.{Class2}
+use Rattle.classify.specs.Classify.{classify2Of}
+use Rattle.classify.specs.declared.classify.Class2.{Class2}
 use Rattle.fuse.specs.Relabel.{swapCode}
 use Rattle.resolve.specs.Items.{Item, one, two, opaque, kindOf}
 use Rattle.register.specs.Register.{turns, exchanges}

@@ -2,13 +2,13 @@
 // bit, with what the proved functions compute.
 ghost use Prim.Native.Nat.{_+_, _≤_};
 ghost use lib.ListN.{length};
+use classify::Class2;
+use classify::Kind2;
+use classify::Rotation;
 use gate::Complex;
 use gate::Mat4;
 use gate::Row4;
 use libc::STDOUT_FILENO;
-use majorana::Class2;
-use majorana::Kind2;
-use majorana::Rotation;
 use real::Map2;
 use real::Map4;
 use real::Real4;
@@ -118,7 +118,7 @@ fn two_agrees(what: u64, s: &[u8]) -> bool {
     }
     let u = gate::given4(s, 0);
     if what == OFFDIAG {
-        return stored::is(majorana::offdiag4(u), s, 400);
+        return stored::is(classify::offdiag4(u), s, 400);
     }
     let m = majorana::majorana_map2(u);
     let q = m.q;
@@ -201,11 +201,11 @@ fn class_agrees(what: u64, s: &[u8], i: usize) -> Tally
         return stored::tally_of(false);
     }
     let u = gate::given4(s, 0);
-    let c = majorana::classify2(5 <= i, tolerance(i), u);
+    let c = classify::classify2(5 <= i, tolerance(i), u);
     let w = num::u64_at(s, 408 + 16 * i);
     let k = c.kind;
     if what == RESIDUAL {
-        return stored::tally_of(stored::is(majorana::residual(k), s, 416 + 16 * i));
+        return stored::tally_of(stored::is(classify::residual(k), s, 416 + 16 * i));
     }
     if what == APPLIED {
         return stored::tally_of(applied_agrees(u, c.swap, c.v));
@@ -263,7 +263,7 @@ fn diagonal(s: &[u8]) -> Mat4
 fn rotation_agrees(p: Complex, s: &[u8], at: usize) -> bool
     requires { ⌜ at + 40 ≤ length (now s) ⌝ }
 {
-    let r = majorana::rotation_of(p);
+    let r = classify::rotation_of(p);
     match r {
         Rotation::By(q) => word_is(true, s, at) && is_map2(q, s, at + 8),
         Rotation::Nothing => word_is(false, s, at),
@@ -276,11 +276,11 @@ fn phases_agree(what: u64, s: &[u8]) -> bool {
         return false;
     }
     let u = diagonal(s);
-    let a = majorana::phase_a(u);
-    let b = majorana::phase_b(u);
-    let w = majorana::interaction(u);
+    let a = classify::phase_a(u);
+    let b = classify::phase_b(u);
+    let w = classify::interaction(u);
     if what == UNIT {
-        return stored::is_complex(majorana::unit(w), s, 112);
+        return stored::is_complex(classify::unit(w), s, 112);
     }
     if what == ROTATION {
         return rotation_agrees(a, s, 128) && rotation_agrees(b, s, 168);

@@ -12,7 +12,7 @@ use Rattle.laws.proofs.Views.{up-head}
 use Rattle.gate.specs.Matrix.{kronOf, mul4Of}
 use Rattle.gate.specs.declared.matrix.Mat2.{Mat2}
 use Rattle.gate.specs.declared.matrix.Mat4.{Mat4}
-use Rattle.majorana.specs.Classify.{classify2Of}
+use Rattle.classify.specs.Classify.{classify2Of}
 use Rattle.resolve.specs.declared.choose.Search.{Search}
 use Rattle.resolve.specs.Cuts.{inWindow, keep, cuts}
 use Rattle.resolve.specs.Choose.{noChoice, offerOf, tryRow, tryAll, chooseOf}

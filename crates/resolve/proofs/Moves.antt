@@ -17,7 +17,7 @@ use Rattle.gate.specs.declared.matrix.Mat2.{Mat2}
 use Rattle.work.specs.Marks.{markAt, putMark}
 use Rattle.work.specs.Columns.{kindColumn, aColumn, cColumn, labColumn, contentColumn, oneKind, oneItem, opaqueItem}
 use Rattle.fuse.specs.Layout.{matrix2Of, putMatrix2Of, eventAt, Space, Within}
-use Rattle.majorana.specs.Classify.{residualOf}
+use Rattle.classify.specs.Classify.{residualOf}
 use Rattle.resolve.specs.declared.choose.Choice.{Choice}
 use Rattle.resolve.specs.declared.settle.Tally.{Tally}
 use Rattle.resolve.specs.Items as Items

@@ -21,10 +21,10 @@ use Rattle.work.proofs.Records.{put-size, put-here, put-column, put-record}
 use Rattle.fuse.specs.Layout.{matrix2Of, matrix4Of, putMatrix2Of, putMatrix4Of, eventAt, Within}
 use Rattle.fuse.proofs.Places.{event-alike}
 use Rattle.fuse.proofs.Listed.{listed-same, listed-set, listed-traded}
-use Rattle.majorana.specs.Classify.{residualOf}
-use Rattle.majorana.specs.declared.classify.Class2.{Class2}
-use Rattle.majorana.specs.declared.classify.Kind2.{Kind2}
-use Rattle.majorana.specs.declared.classify.Kind2.the-variants.{Diag, Interaction, Match, NonGaussian}
+use Rattle.classify.specs.Classify.{residualOf}
+use Rattle.classify.specs.declared.classify.Class2.{Class2}
+use Rattle.classify.specs.declared.classify.Kind2.{Kind2}
+use Rattle.classify.specs.declared.classify.Kind2.the-variants.{Diag, Interaction, Match, NonGaussian}
 use Rattle.resolve.specs.declared.settle.Tally.{Tally}
 use Rattle.resolve.specs.Items as Items
 use Rattle.resolve.specs.Items.{Item, kindOf, newestFirst}

@@ -9,10 +9,10 @@ use Rattle.gate.specs.Complex.{f0}
 use Rattle.gate.specs.Matrix.{kronOf, mul4Of}
 use Rattle.gate.specs.declared.matrix.Mat2.{Mat2}
 use Rattle.gate.specs.declared.matrix.Mat4.{Mat4}
-use Rattle.majorana.specs.Classify.{classify2Of, class2, rankOf, residualOf}
-use Rattle.majorana.specs.declared.classify.Class2.{Class2}
-use Rattle.majorana.specs.declared.classify.Kind2.{Kind2}
-use Rattle.majorana.specs.declared.classify.Kind2.the-variants.{NonGaussian}
+use Rattle.classify.specs.Classify.{classify2Of, class2, rankOf, residualOf}
+use Rattle.classify.specs.declared.classify.Class2.{Class2}
+use Rattle.classify.specs.declared.classify.Kind2.{Kind2}
+use Rattle.classify.specs.declared.classify.Kind2.the-variants.{NonGaussian}
 use Rattle.resolve.specs.declared.choose.Choice.{Choice}
 use Rattle.resolve.specs.declared.choose.Search.{Search}
 use Rattle.resolve.specs.Cuts.{cuts}

@@ -7,8 +7,8 @@ use Rattle.laws.specs.Lists.{All}
 use Rattle.gate.specs.declared.matrix.Mat2.{Mat2}
 use Rattle.gate.specs.declared.matrix.Mat4.{Mat4}
 use Rattle.work.specs.Columns.{matchItem, diagonalItem, interactionItem, neitherItem}
-use Rattle.majorana.specs.declared.classify.Kind2.{Kind2}
-use Rattle.majorana.specs.declared.classify.Kind2.the-variants.{Diag, Interaction, Match, NonGaussian}
+use Rattle.classify.specs.declared.classify.Kind2.{Kind2}
+use Rattle.classify.specs.declared.classify.Kind2.the-variants.{Diag, Interaction, Match, NonGaussian}
 
 pub data Item : Type 0 where
   -- w, u

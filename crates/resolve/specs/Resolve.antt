@@ -13,7 +13,7 @@ use Rattle.gate.specs.Matrix.{id2, mul2Of, mul4Of, kronOf}
 use Rattle.gate.specs.declared.matrix.Mat2.{Mat2}
 use Rattle.gate.specs.declared.matrix.Mat4.{Mat4}
 use Rattle.fuse.specs.Events.{Event, gone, one, two, three}
-use Rattle.majorana.specs.Classify.{residualOf}
+use Rattle.classify.specs.Classify.{residualOf}
 use Rattle.resolve.specs.declared.choose.Choice.{Choice}
 use Rattle.resolve.specs.declared.choose.Search.{Search}
 use Rattle.resolve.specs.Items as Items

@@ -15,8 +15,8 @@ use Rattle.work.specs.Marks.{markAt, putMark}
 use Rattle.work.specs.Columns.{kindColumn, aColumn, bColumn, cColumn, labColumn, contentColumn, goneKind, oneItem, matchItem, neitherItem, opaqueItem}
 use Rattle.fuse.specs.Events.{Event}
 use Rattle.fuse.specs.Layout.{Within, matrix2Of, matrix4Of, putMatrix4Of, eventAt, oneAt, blockAt}
-use Rattle.majorana.specs.Classify.{residualOf}
-use Rattle.majorana.specs.declared.classify.Class2.{Class2}
+use Rattle.classify.specs.Classify.{residualOf}
+use Rattle.classify.specs.declared.classify.Class2.{Class2}
 use Rattle.resolve.specs.declared.choose.Search.{Search}
 use Rattle.resolve.specs.declared.settle.Tally.{Tally}
 use Rattle.resolve.specs.Items as Items

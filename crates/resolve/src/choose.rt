@@ -6,15 +6,15 @@ ghost use Rattle.resolve.specs.Cuts.{cuts};
 ghost use Rattle.resolve.specs.Choose.{candidateOf, betterOf, offerOf, tryRow, chooseOf};
 ghost use Rattle.resolve.specs.Slots.{firstRow, secondRow};
 use crate::cuts::in_window;
+use classify::Class2;
+use classify::Kind2;
+use classify::classify2;
+use classify::rank;
+use classify::residual;
 use gate::Mat4;
 use gate::kron;
 use gate::load2;
 use gate::mul4;
-use majorana::Class2;
-use majorana::Kind2;
-use majorana::classify2;
-use majorana::rank;
-use majorana::residual;
 use num::either;
 
 // Rows of the records for what the cuts of the two tails take.

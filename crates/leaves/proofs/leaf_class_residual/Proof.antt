@@ -1,7 +1,7 @@
 -- `leaves::leaf_class_residual` meets its contract: it is a field of the class.
 -- Assumes nothing.
 use mathlib.Core.Path.{_∙_, ap}
-use Rattle.majorana.specs.Classify.{residualOf, classify2Of}
+use Rattle.classify.specs.Classify.{residualOf, classify2Of}
 use Rattle.leaves.proofs.leaf_class_residual.Statement.{statement}
 use Rattle.leaves.proofs.leaf_class_residual.Tie as tie
 

@@ -2,8 +2,8 @@
 -- Assumes nothing.
 use mathlib.Core.Path.{_∙_, ap}
 use borrow.Author.Needs.{needs}
-use Rattle.majorana.specs.Classify.{classify2Of}
-use Rattle.majorana.specs.declared.classify.Class2.{Class2}
+use Rattle.classify.specs.Classify.{classify2Of}
+use Rattle.classify.specs.declared.classify.Class2.{Class2}
 use Rattle.leaves.specs.Slices.{put4Of}
 use Rattle.leaves.specs.Classes.{codeOf}
 use Rattle.leaves.proofs.leaf_classify2.Statement.{statement}

@@ -1,6 +1,6 @@
 -- `detect::emit::put_rotations` meets its contract: the first wire's rotation, then the second's. Assumes nothing.
 use borrow.Author.Needs.{needs}
-use Rattle.majorana.specs.Diagonal.{phaseAOf, phaseBOf, rotationOf}
+use Rattle.classify.specs.Diagonal.{phaseAOf, phaseBOf, rotationOf}
 use Rattle.detect.specs.Emit.{rotated, rotationsOf}
 use Rattle.detect.proofs.Placing.{first-room, next-room, put-both}
 use Rattle.detect.proofs.emit.put_rotations.Statement.{statement}

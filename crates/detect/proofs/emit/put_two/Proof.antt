@@ -5,7 +5,7 @@ use Prim.Native.Nat.{_+_}
 use native.Mathlib.Omega.{arith}
 use borrow.Author.Needs.{needs}
 use lib.ListN.{length}
-use Rattle.majorana.specs.Diagonal.{interactionOf, unitOf}
+use Rattle.classify.specs.Diagonal.{interactionOf, unitOf}
 use Rattle.detect.specs.Operation.{interaction, placesOf}
 use Rattle.detect.specs.Emit.{rotationsOf}
 use Rattle.detect.proofs.Placing.{put-none, put-one, put-length, one-long, first-room, next-room, put-both}

@@ -2,7 +2,7 @@
 -- Assumes nothing.
 use Rattle.gate.specs.Complex.{isZeroOf}
 use Rattle.gate.specs.Matrix.{axpyOf, rowMulOf, mul4Of}
-use Rattle.majorana.specs.Classify.{swap4Of}
+use Rattle.majorana.specs.Majorana.{swap4Of}
 use Rattle.majorana.specs.Parts.{scaledOf}
 use lib.Ieee.{eq, ofBits}
 use Rattle.majorana.proofs.operators.swap4.Statement.{statement}

@@ -6,7 +6,7 @@ use Prim.Native.Nat.{_+_, _-_, _≤_}
 use borrow.Author.Needs.{needs}
 use mathlib.Core.Logic.{⊎-elim}
 use Rattle.gate.specs.Matrix.{kronOf, mul4Of}
-use Rattle.majorana.specs.Classify.{classify2Of}
+use Rattle.classify.specs.Classify.{classify2Of}
 use Rattle.resolve.specs.Cuts.{cuts}
 use Rattle.resolve.specs.Choose.{offerOf, tryRow}
 use Rattle.resolve.specs.Slots.{firstRow, secondRow}
