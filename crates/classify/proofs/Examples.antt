@@ -7,7 +7,7 @@ use Rattle.num.specs.Order.{absOf, maxOf, minOf}
 use Rattle.num.specs.Root.{sqrtOf}
 use Rattle.gate.specs.Complex.{cx, f0, f1, c0, c1, isZeroOf}
 use Rattle.gate.specs.Matrix.{kronRowOf, kronOf, axpyOf, rowMulOf, mul4Of, conjColumnOf, dag4Of}
-use Rattle.gate.specs.Table.{f-1, c-1, ci, gateCnot, gateCz, gateISwap, gateSwap}
+use Rattle.named.specs.Table.{f-1, c-1, ci, gateCnot, gateCz, gateISwap, gateSwap}
 use Rattle.classify.specs.declared.diagonal.Rotation.the-variants.{By, Nothing}
 use Rattle.classify.specs.declared.classify.Kind2.the-variants.{Diag, Interaction, Match, NonGaussian}
 use Rattle.majorana.specs.Majorana.{

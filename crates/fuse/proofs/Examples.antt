@@ -7,7 +7,7 @@ use lib.Ieee.{add, sub, mul, eq, ofBits}
 use Rattle.laws.specs.Views.{until, from, upFrom}
 use Rattle.gate.specs.Complex.{isZeroOf}
 use Rattle.gate.specs.Matrix.{mul2Of, dot2Of, mul4Of, kronOf, mat4SwapQubitsOf}
-use Rattle.gate.specs.Table.{gateX, gateZ, gateS, gateCnot, gateSwap, gateISwap}
+use Rattle.named.specs.Table.{gateX, gateZ, gateS, gateCnot, gateSwap, gateISwap}
 use Rattle.tape.specs.declared.gates.Gate.the-variants.{One, Two}
 use Rattle.fuse.specs.Events.{Event, gone, one, two, three, product}
 use Rattle.fuse.specs.Relabel.{labelled, unlabelled}

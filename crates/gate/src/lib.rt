@@ -1,11 +1,10 @@
-// Complex numbers, 2 by 2 and 4 by 4 matrices by value, their products, and the constant table of
-// the named gates: gate.rs of the original, and the small matrix products of its detect.rs.
+// Complex numbers, 2 by 2 and 4 by 4 matrices by value, and their products: gate.rs of the original
+// but for its named gates, and the small matrix products of its detect.rs.
 
 mod complex; // a complex number is a struct of two floats, as num-complex has it
 mod matrix; // matrices as structs of rows, and their products
 mod given; // matrices in bytes, as a tape gives them
 mod lent; // matrices in a lent slice of floats
-mod table; // the exact matrices of the named gates, by code
 
 pub use complex::Complex;
 pub use given::given2;
@@ -26,5 +25,3 @@ pub use matrix::mat4_swap_qubits;
 pub use matrix::mul2;
 pub use matrix::mul4;
 pub use matrix::time_step;
-pub use table::matrix_1q;
-pub use table::matrix_2q;

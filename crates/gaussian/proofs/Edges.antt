@@ -12,8 +12,8 @@ use Rattle.laws.specs.Views.{from, upFrom}
 use Rattle.laws.specs.Tests.{allBelow}
 use Rattle.num.specs.Bits.{le16, le32, le64}
 use Rattle.gate.specs.Complex.{f0, f1}
-use Rattle.gate.specs.Table.{f-1, gateX, gateCz, gateISwap, matrix1qOf, matrix2qOf}
 use Rattle.gate.specs.declared.matrix.Mat2.{Mat2}
+use Rattle.named.specs.Table.{f-1, gateX, gateCz, gateISwap, matrix1qOf, matrix2qOf}
 use Rattle.tape.specs.Bounds.{headerLength}
 use Rattle.tape.specs.Header.{headerAt, isTolerance, headerMarked, headerOf}
 use Rattle.tape.specs.Codes.{qubitsOf, floatsOf, gateLength}

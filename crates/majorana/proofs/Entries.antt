@@ -5,9 +5,9 @@ use mathlib.Core.Path.{_≡_, refl, ap, _∙_}
 use lib.Ieee.{Float, binary64, add, sub, mul, eq, ofBits}
 use Rattle.gate.specs.Complex.{cx, f0, c0, c1, isZeroOf}
 use Rattle.gate.specs.Matrix.{row4, mat4, kronRowOf, kronOf, axpyOf, rowMulOf, mul4Of}
-use Rattle.gate.specs.Table.{f-1, c-1, ci, c-i}
 use Rattle.gate.specs.declared.complex.Complex.{Complex}
 use Rattle.gate.specs.declared.matrix.Mat4.{Mat4}
+use Rattle.named.specs.Table.{f-1, c-1, ci, c-i}
 use Rattle.majorana.specs.Majorana.{majorana0, majorana1, majorana2, majorana3}
 use Rattle.majorana.specs.Parts.{scaledOf}
 

@@ -10,12 +10,12 @@ use Rattle.num.specs.Order.{maxOf}
 use Rattle.num.specs.Root.{sqrtOf}
 use Rattle.gate.specs.Complex.{_+ℂ_, _-ℂ_, _*ℂ_, scaleOf, normSqrOf, f0, f2, c0}
 use Rattle.gate.specs.Matrix.{row4, mat4, id2, mul2Of, dag2Of, kronOf, mul4Of, dag4Of}
-use Rattle.gate.specs.Table.{gateX, gateY, gateZ, gateSwap}
 use Rattle.gate.specs.declared.complex.Complex.{Complex}
 use Rattle.gate.specs.declared.matrix.Row2.{Row2}
 use Rattle.gate.specs.declared.matrix.Mat2.{Mat2}
 use Rattle.gate.specs.declared.matrix.Row4.{Row4}
 use Rattle.gate.specs.declared.matrix.Mat4.{Mat4}
+use Rattle.named.specs.Table.{gateX, gateY, gateZ, gateSwap}
 use Rattle.majorana.specs.declared.maps.Mapped2.{Mapped2}
 use Rattle.majorana.specs.declared.maps.Mapped4.{Mapped4}
 

@@ -8,7 +8,7 @@ use Rattle.real.specs.declared.maps.Real4.{Real4}
 use Rattle.real.specs.declared.maps.Map4.{Map4}
 use Rattle.num.specs.Order.{absOf}
 use Rattle.gate.specs.Complex.{f0, f1}
-use Rattle.gate.specs.Table.{f-1}
+use Rattle.named.specs.Table.{f-1}
 
 -- 1e-9
 abbrev pub slack : Float

@@ -7,8 +7,8 @@ use lib.Ieee.{Float, le}
 use Rattle.laws.specs.Phase.{Phase}
 use Rattle.num.specs.Order.{minOf}
 use Rattle.gate.specs.Complex.{f0, f1}
-use Rattle.gate.specs.Table.{gateSwap}
 use Rattle.gate.specs.declared.matrix.Mat4.{Mat4}
+use Rattle.named.specs.Table.{gateSwap}
 use Rattle.majorana.specs.Majorana.{swap4Of}
 use Rattle.classify.specs.declared.classify.Kind2.the-variants.{Diag, Interaction, Match, NonGaussian}
 use Rattle.classify.specs.Diagonal.{interactionOf, phaseNoneOf}

@@ -9,8 +9,8 @@ use Rattle.laws.specs.Bounds.{maxTolerance}
 use Rattle.laws.specs.Phase.{i0, i1, i2}
 use Rattle.gate.specs.Complex.{cx, f0, f1, c0, c1}
 use Rattle.gate.specs.Matrix.{row4, mat4, kronOf}
-use Rattle.gate.specs.Table.{ci, gateX, gateY, gateCz, gateSwap, gateISwap}
 use Rattle.gate.specs.declared.matrix.Mat4.{Mat4}
+use Rattle.named.specs.Table.{ci, gateX, gateY, gateCz, gateSwap, gateISwap}
 use Rattle.majorana.specs.Majorana.{majoranaMap1Of, majoranaMap2Of, swap4Of}
 use Rattle.classify.specs.Diagonal.{offdiag4Of}
 use Rattle.classify.specs.Classify.{class2, classify2Of}

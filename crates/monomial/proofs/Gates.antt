@@ -5,7 +5,7 @@ use mathlib.Core.Logic.{_≢_}
 use mathlib.Core.Bool.{Bool, not, _||_}
 use Prim.Native.Nat.{ℕ, _+_, _<_}
 use lib.Dec.{eqb}
-use Rattle.gate.specs.Table.{gateS, gateSdg, gateSwap, gateISwap, gateISwapdg, matrix1qOf, matrix2qOf}
+use Rattle.named.specs.Table.{gateS, gateSdg, gateSwap, gateISwap, gateISwapdg, matrix1qOf, matrix2qOf}
 use Rattle.monomial.specs.Monomial.{Has2, Has4, bitA, bitB}
 use Rattle.monomial.specs.Algebra.{Even, monoS, monoSdg, monoSwap, monoISwap, monoISwapdg, mono1qOf, mono2qFrom}
 use Rattle.monomial.proofs.Tests.{at-each}

@@ -11,10 +11,10 @@ use Rattle.real.specs.declared.maps.Real2.{Real2}
 use Rattle.real.specs.declared.maps.Real4.{Real4}
 use Rattle.gate.specs.Complex.{f0, f1, c0, c1, f2}
 use Rattle.gate.specs.Matrix.{id2, mul2Of, dag2Of, mul4Of, dag4Of}
-use Rattle.gate.specs.Table.{f-1, gateX, gateY, gateZ}
 use Rattle.gate.specs.declared.matrix.Mat2.{Mat2}
 use Rattle.gate.specs.declared.matrix.Row4.{Row4}
 use Rattle.gate.specs.declared.matrix.Mat4.{Mat4}
+use Rattle.named.specs.Table.{f-1, gateX, gateY, gateZ}
 use Rattle.majorana.specs.Majorana.{f4, image2Of, coefficients2Of, less2Of, rest2Of, square2Of, distance2Of, majorana0, majorana1, majorana2, majorana3, image4Of, coefficients4Of, less4Of, rest4Of, square4Of, distance4Of}
 use Rattle.monomial.specs.Groups.{Two, two, Four, four, Mat2Of, Row4Of, Mat4Of}
 use Rattle.monomial.specs.Monomial.{Entry, IsEntry, entries2}

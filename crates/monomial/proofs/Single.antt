@@ -13,8 +13,8 @@ use Rattle.laws.specs.Phase.{Phase}
 use Rattle.laws.proofs.Phases.{everyPhase, at-phase}
 use Rattle.real.specs.Maps.{row2, entry2, local2}
 use Rattle.gate.specs.Complex.{f0}
-use Rattle.gate.specs.Table.{gateX, gateY}
 use Rattle.gate.specs.declared.matrix.Mat2.{Mat2}
+use Rattle.named.specs.Table.{gateX, gateY}
 use Rattle.majorana.specs.Majorana.{image2Of, mapRow2Of, mapDistance2Of, majoranaMap1Of}
 use Rattle.monomial.specs.Groups.{Two, two, Mat2Of}
 use Rattle.monomial.specs.Monomial.{Entry, IsEntry, flip, Mono2, entries2, Has2}

@@ -2,7 +2,7 @@
 use mathlib.Core.Path.{_≡_, refl}
 use mathlib.Core.Bool.{true, false}
 use mathlib.Core.List.{List, [], _∷_}
-use Rattle.gate.specs.Table.{gateX, gateY, gateZ, gateSwap, gateISwap}
+use Rattle.named.specs.Table.{gateX, gateY, gateZ, gateSwap, gateISwap}
 use Rattle.tape.specs.declared.gates.Gate.{Gate}
 use Rattle.tape.specs.declared.gates.Gate.the-variants.{One, Two}
 use Rattle.register.specs.Register.{registerFrom, registerBits}

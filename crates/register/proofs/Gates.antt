@@ -11,9 +11,9 @@ use lib.Ieee.Bits.{is-true}
 use lib.Ieee.Fits.{and-l, and-r}
 use borrow.Author.Tests.{leb-true, eqb-false, ne-eqb, not-true}
 use Rattle.laws.specs.Lists.{All}
-use Rattle.gate.specs.Table.{matrix2qOf}
 use Rattle.gate.specs.declared.matrix.Mat2.{Mat2}
 use Rattle.gate.specs.declared.matrix.Mat4.{Mat4}
+use Rattle.named.specs.Table.{matrix2qOf}
 use Rattle.tape.specs.Good.{GoodOne, GoodTwo, GoodGate}
 use Rattle.tape.specs.declared.gates.Gate.{Gate}
 use Rattle.tape.specs.declared.gates.Gate.the-variants.{One, Two, Three}

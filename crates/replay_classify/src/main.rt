@@ -188,7 +188,7 @@ fn same_mat4(a: Mat4, b: Mat4) -> bool {
 // The matrix to apply is the block's own, or SWAP times it.
 fn applied_agrees(u: Mat4, swap: bool, v: Mat4) -> bool {
     if swap {
-        return same_mat4(gate::mul4(gate::matrix_2q(SWAP), u), v);
+        return same_mat4(gate::mul4(named::matrix_2q(SWAP), u), v);
     }
     same_mat4(u, v)
 }

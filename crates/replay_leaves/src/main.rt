@@ -87,7 +87,7 @@ fn table_agrees(tag: u64, s: &[u8]) -> bool {
         if 9 <= code {
             return false;
         }
-        return stored::is_mat2(gate::matrix_1q(code), s, 8);
+        return stored::is_mat2(named::matrix_1q(code), s, 8);
     }
     if s.len() < 264 {
         return false;
@@ -98,7 +98,7 @@ fn table_agrees(tag: u64, s: &[u8]) -> bool {
     if 21 <= code {
         return false;
     }
-    stored::is_mat4(gate::matrix_2q(code), s, 8)
+    stored::is_mat4(named::matrix_2q(code), s, 8)
 }
 
 // A record of one or two 2 by 2 matrices and a result.

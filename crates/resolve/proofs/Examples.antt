@@ -6,7 +6,7 @@ use lib.Ieee.{add, sub, mul, ofBits}
 use Rattle.laws.specs.Views.{until, upFrom}
 use Rattle.gate.specs.Complex.{f0}
 use Rattle.gate.specs.Matrix.{mul2Of, dot2Of}
-use Rattle.gate.specs.Table.{gateX, gateZ, gateISwap}
+use Rattle.named.specs.Table.{gateX, gateZ, gateISwap}
 use Rattle.fuse.specs.Events.{one, two, three}
 use Rattle.resolve.specs.Items as Items
 use Rattle.resolve.specs.Cuts.{ones, ahead, keep, cuts}

@@ -1,7 +1,7 @@
 -- `majorana::one_mode::majorana_map1` meets its contract: the rows are those of the definition, and the root of the larger square is the larger root.
 -- Assumes nothing.
 use mathlib.Core.List.{[], _∷_}
-use Rattle.gate.specs.Table.{gateX, gateY}
+use Rattle.named.specs.Table.{gateX, gateY}
 use Rattle.majorana.specs.Majorana.{image2Of, mapRow2Of, mapDistance2Of, majoranaMap1Of}
 use Rattle.majorana.specs.Parts.{fitted2Of, largestOf}
 use Rattle.majorana.proofs.OneRoot.{none, more, one-root, distance2-fits}

@@ -1,11 +1,11 @@
--- `gate::table::matrix_1q` meets its contract: the constant array is the definition's list, and the index lies within it.
+-- `named::table::matrix_1q` meets its contract: the constant array is the definition's list, and the index lies within it.
 -- Assumes nothing.
 use borrow.Author.Needs.{needs}
-use Rattle.gate.specs.Table.{matrix1qOf, oneQubit}
+use Rattle.named.specs.Table.{matrix1qOf, oneQubit}
 use Rattle.gate.specs.Matrix.{id2}
 use Rattle.laws.proofs.Slices.{getD-any}
-use Rattle.gate.proofs.table.matrix_1q.Statement.{statement}
-use Rattle.gate.proofs.table.matrix_1q.Tie as tie
+use Rattle.named.proofs.table.matrix_1q.Statement.{statement}
+use Rattle.named.proofs.table.matrix_1q.Tie as tie
 
 returns : tie.Need-returns
 unfolding matrix1qOf

@@ -1,12 +1,12 @@
--- `gate::table::matrix_2q` meets its contract: the constant array is the definition's list, and the index lies within it.
+-- `named::table::matrix_2q` meets its contract: the constant array is the definition's list, and the index lies within it.
 -- Assumes nothing.
 use Prim.Native.Nat.{_-_}
 use native.Mathlib.Omega.{arith}
 use borrow.Author.Needs.{needs}
-use Rattle.gate.specs.Table.{matrix2qOf, twoQubit, gateCnot}
+use Rattle.named.specs.Table.{matrix2qOf, twoQubit, gateCnot}
 use Rattle.laws.proofs.Slices.{getD-any}
-use Rattle.gate.proofs.table.matrix_2q.Statement.{statement}
-use Rattle.gate.proofs.table.matrix_2q.Tie as tie
+use Rattle.named.proofs.table.matrix_2q.Statement.{statement}
+use Rattle.named.proofs.table.matrix_2q.Tie as tie
 
 returns : tie.Need-returns
 unfolding matrix2qOf

@@ -1,12 +1,12 @@
 // The exact matrices of the named gates, as gate.rs of the original has them, by code.
 ghost use mathlib.Core.Path.{_≡_};
 ghost use Prim.Native.Nat.{_<_, _≤_};
-ghost use Rattle.gate.specs.Table.{matrix1qOf, matrix2qOf};
-use crate::complex::Complex;
-use crate::matrix::Mat2;
-use crate::matrix::Mat4;
-use crate::matrix::Row2;
-use crate::matrix::Row4;
+ghost use Rattle.named.specs.Table.{matrix1qOf, matrix2qOf};
+use gate::Complex;
+use gate::Mat2;
+use gate::Mat4;
+use gate::Row2;
+use gate::Row4;
 
 const ZERO: Complex = Complex { re: 0.0, im: 0.0 };
 
