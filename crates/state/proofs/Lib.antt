@@ -8,6 +8,7 @@ pub mod Operations
 pub mod Permutations
 pub mod Inverse
 mod Words
+mod Marks
 pub mod Questions
 pub mod Pairs
 mod Examples

@@ -4,7 +4,7 @@ use mathlib.Core.Path.{_≡_, refl, sym, ap, _∙_}
 use mathlib.Core.Logic.{_⊎_, inl, inr, _≢_}
 use mathlib.Core.Bool.{Bool, true, false, not, _&&_, false≢true}
 use mathlib.Core.List.{List, [], _∷_}
-use Prim.Native.Nat.{ℕ, zero, suc, _+_, _-_, _≤_, _<_}
+use Prim.Native.Nat.{ℕ, zero, suc, _+_, _≤_, _<_}
 use native.Mathlib.Nat.{le-antisymm}
 use native.Mathlib.Numerals.{add-one}
 use native.Mathlib.Omega.{arith}
@@ -17,11 +17,9 @@ use Rattle.laws.specs.Tables.{modeAt}
 use Rattle.laws.proofs.Cases.{lt-or-le, eq-or-ne}
 use Rattle.laws.proofs.Tests.{and-left, and-right, all-each, all-of}
 use Rattle.state.specs.Modes.{unused, modeOk, isPermutation}
+use Rattle.state.specs.Parts.{Marked}
 
 -- ---- the marks: mode k is marked exactly if a qubit before q has it
-
-abbrev pub Marked : List ℕ → ℕ → List Bool → Type 0
-Marked l q seen = (k : ℕ) → k < length seen → getD seen k false ≡ not (unused l q k)
 
 -- a list with no mark, by a test that computes
 abbrev noneSet : List Bool → Bool
@@ -62,31 +60,6 @@ marked-more l q k seen e w j h = rw add-one (by (eq-or-ne j k))
         (ap (λ n. getD (set seen k true) n false) f ∙ getD-set-same seen k true false (omega (arith, h′)) ∙ here (unused l q j))
     by (inr ne) =
         rw (ne-eqb (modeAt l q) j (λ f. ne (sym f ∙ sym e))) (getD-set-other seen k j true false ne ∙ w j h′ ∙ there (unused l q j))
-
-not-true : (b : Bool) → true ≡ not b → b ≡ false
-not-true true e = e
-not-true false e = refl
-
-not-false : (b : Bool) → false ≡ not b → b ≡ true
-not-false true e = refl
-not-false false e = e
-
--- what the mark of its mode says of qubit q
-module _ (n : ℕ) (l : List ℕ) (q k : ℕ) (seen : List Bool) (e : k ≡ modeAt l q) (w : Marked l q seen) (h : k < length seen) where
-  mark-here : getD seen k false ≡ not (unused l q (modeAt l q))
-  mark-here = w k h ∙ ap (λ j. not (unused l q j)) e
-
-  pub mark-used : getD seen k false ≡ true → modeOk n l q ≡ false
-  mark-used f = by (ltb (modeAt l q) n) (unused l q (modeAt l q)) (not-true (unused l q (modeAt l q)) (sym f ∙ mark-here))
-    where
-      by : (a b : Bool) → b ≡ false → a && b ≡ false
-      by true b e = e
-      by false b e = refl
-
-  pub mark-fresh : getD seen k false ≡ false → k < n → modeOk n l q ≡ true
-  mark-fresh f g =
-      let b : modeAt l q < n = omega arith in
-      rw (lt-ltb (modeAt l q) n b) (not-false (unused l q (modeAt l q)) (sym f ∙ mark-here))
 
 -- ---- a permutation
 

@@ -1,7 +1,7 @@
 -- What the inner functions ask and give: rows of three and two numbers in the determinant, one index settled, a column read as a struct.
 -- Definitions only.
 use mathlib.Core.Path.{_≡_}
-use mathlib.Core.Bool.{Bool, false, cond, _&&_}
+use mathlib.Core.Bool.{Bool, false, cond, not, _&&_}
 use mathlib.Core.List.{List, [], _∷_}
 use Prim.Native.Nat.{ℕ, _+_, _*_, _%_, _≤_, _<_}
 use lib.Dec.{eqb}
@@ -16,6 +16,7 @@ use Rattle.real.specs.declared.maps.Map2.{Map2}
 use Rattle.real.specs.declared.maps.Real4.{Real4}
 use Rattle.real.specs.declared.maps.Map4.{Map4}
 use Rattle.state.specs.Bounds.{dimOf, statePlaces}
+use Rattle.state.specs.Modes.{unused}
 use Rattle.state.specs.State.{State}
 use Rattle.state.specs.Apply.{unsettled, settled, calm}
 use Rattle.state.specs.Det.{Line}
@@ -47,6 +48,10 @@ pub record HasState (s : List Float) (n : ℕ) : Type 0 where
 pub record NoMarks (seen : List Bool) (n : ℕ) : Type 0 where
   pub long : n ≤ length seen
   pub clear : (k : ℕ) → getD seen k false ≡ false
+
+-- mode k is marked exactly if a qubit before q has it
+abbrev pub Marked : List ℕ → ℕ → List Bool → Type 0
+Marked l q seen = (k : ℕ) → k < length seen → getD seen k false ≡ not (unused l q k)
 
 -- which of the four signs from start on are below zero
 pub record Below4 (s : List Float) (dim start : ℕ) (b0 b1 b2 b3 : Bool) : Type 0 where

@@ -2,14 +2,15 @@
 
 ghost use mathlib.Core.Path.{_≡_};
 ghost use Prim.Native.Nat.{_-_, _^_, _≤_, _<_};
-ghost use lib.Dec.{eqb};
-ghost use lib.ListN.{length};
+ghost use mathlib.Core.Bool.{true, false};
+ghost use lib.Dec.{eqb, ltb};
+ghost use lib.ListN.{length, getD};
 ghost use Rattle.laws.specs.Tests.{allBelow};
 ghost use Rattle.laws.specs.Tables.{modeAt};
 ghost use Rattle.laws.specs.Bounds.{maxQubits};
 ghost use Rattle.state.specs.Modes.{modeOk, isPermutation};
 ghost use Rattle.state.specs.Questions.{stateOk};
-ghost use Rattle.state.specs.Parts.{NoMarks};
+ghost use Rattle.state.specs.Parts.{NoMarks, Marked};
 
 pub const MAX_QUBITS: usize = 128;
 
@@ -97,25 +98,65 @@ fn all_met(n: usize, modes: &[u16]) -> bool
     a | b == ones(n)
 }
 
-// Each of the first n entries is below n, and no two are equal. The modes met so far are marked.
+// Each of the first n entries is below n. All are looked at, so that the compiler compares several at once.
+fn all_below(n: usize, modes: &[u16]) -> bool
+    requires { ⌜ n ≤ maxQubits ⌝ }
+    requires { ⌜ n ≤ length (now modes) ⌝ }
+    ensures { λ r. ⌜ r ≡ allBelow (λ q. ltb (modeAt (now (modes .entry)) q) n) n ⌝ }
+{
+    let top = n as u16;
+    let mut below = true;
+    let mut q = 0;
+    while q < n {
+        if modes[q] >= top {
+            below = false;
+        }
+        q += 1;
+    }
+    below
+}
+
+// The modes of the first n qubits are marked.
+fn mark(n: usize, modes: &[u16], seen: &mut [bool])
+    requires { ⌜ n ≤ length (now modes) ⌝ }
+    requires { ⌜ NoMarks (now seen) n ⌝ }
+    requires { ⌜ allBelow (λ q. ltb (modeAt (now modes) q) n) n ≡ true ⌝ }
+    ensures { λ _. ⌜ Marked (now (modes .entry)) n (now (seen .exit)) ⌝ }
+{
+    let mut q = 0;
+    while q < n {
+        seen[mode_at(modes, q)] = true;
+        q += 1;
+    }
+}
+
+// The first n marks are set. All are looked at, as above.
+fn all_set(n: usize, seen: &[bool]) -> bool
+    requires { ⌜ n ≤ length (now seen) ⌝ }
+    ensures { λ r. ⌜ r ≡ allBelow (λ k. getD (now (seen .entry)) k false) n ⌝ }
+{
+    let mut set = true;
+    let mut k = 0;
+    while k < n {
+        set = set & seen[k];
+        k += 1;
+    }
+    set
+}
+
+// Each of the first n entries is below n, and each number below n is met: so no two are equal. The modes met
+// are marked; no mark is looked at before all are made, so that the processor need not wait for one.
 fn each_once(n: usize, modes: &[u16], seen: &mut [bool]) -> bool
+    requires { ⌜ n ≤ maxQubits ⌝ }
     requires { ⌜ n ≤ length (now modes) ⌝ }
     requires { ⌜ NoMarks (now seen) n ⌝ }
     ensures { λ r. ⌜ r ≡ allBelow (modeOk n (now (modes .entry))) n ⌝ }
 {
-    let mut q = 0;
-    while q < n {
-        let k = mode_at(modes, q);
-        if k >= n {
-            return false;
-        }
-        if seen[k] {
-            return false;
-        }
-        seen[k] = true;
-        q += 1;
+    if all_below(n, modes) {
+        mark(n, modes, seen);
+        return all_set(n, seen);
     }
-    true
+    false
 }
 
 // The first n entries of the mode table are a permutation.

@@ -43,7 +43,7 @@ each-once-requires : tie.Need-each-once-requires
 unfolding upFrom
 each-once-requires c κs =
     let l = c .before .before .before .before in
-    (l .if1 .left, record { long = l .before .before .pre; clear = none-set (listOf maxQubits (λ i. false)) refl })
+    (l .before .before .pre, (l .if1 .left, record { long = l .before .before .pre; clear = none-set (listOf maxQubits (λ i. false)) refl }))
 
 returns-4 : tie.Need-returns-4
 unfolding isPermutation
