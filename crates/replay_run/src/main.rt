@@ -1,13 +1,10 @@
 // Replays the stored tapes through `run` and puts the stored queries to each state. Prints how many answers, reports, slices and shots agree, bit for
 // bit, with the stored ones, and of each kind the first that does not.
-mod counts; // counts.rt: how many comparisons agree, and which is the first that does not
-mod packed; // packed.rt: the words of a record
-mod slices; // slices.rt: slices beside the words of a record
-mod asked; // asked.rt: queries on its state
 mod tapes; // tapes.rt: a tape run in lent slices
 
-use counts::Counts;
 use libc::STDOUT_FILENO;
+use stored_queries::counts;
+use stored_queries::counts::Counts;
 
 // A list has fewer than 1,024 records.
 fn count(s: &[u8], counts: &mut Counts) {

@@ -1,10 +1,10 @@
 // A tape run in lent slices, and what it answers and leaves there beside the words of its record.
-use super::asked;
-use super::counts::*;
-use super::packed::unpack;
-use super::slices::*;
 use detect::Answer;
 use detect::Report;
+use stored_queries::asked;
+use stored_queries::counts::*;
+use stored_queries::packed::unpack;
+use stored_queries::slices::*;
 
 // Words of a record: the lengths of the lent slices, how many places of work are zero afterwards, number and place, the report, its tables; then the
 // operation slice, the state slice, the queries.

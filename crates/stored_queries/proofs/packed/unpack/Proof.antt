@@ -1,10 +1,10 @@
--- `replay_run::packed::unpack` is safe and ends: it goes through the slice once. Assumes nothing.
+-- `stored_queries::packed::unpack` is safe and ends: it goes through the slice once. Assumes nothing.
 use mathlib.Core.Path.{_≡_}
 use Prim.Native.Nat.{_≤_, _-_}
 use lib.ListN.{length}
 use borrow.Author.Needs.{needs}
-use Rattle.replay_run.proofs.packed.unpack.Statement.{statement}
-use Rattle.replay_run.proofs.packed.unpack.Tie as tie
+use Rattle.stored_queries.proofs.packed.unpack.Statement.{statement}
+use Rattle.stored_queries.proofs.packed.unpack.Tie as tie
 
 abbrev Inv-loop : tie.InvT-loop
 Inv-loop s words₀ x₀ i₀ words x i = (i ≤ length words₀) × (length words ≡ length words₀)

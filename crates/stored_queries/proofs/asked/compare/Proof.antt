@@ -1,8 +1,8 @@
--- `replay_run::asked::compare` is safe and ends: a tape has fewer than 256 queries. Assumes nothing.
+-- `stored_queries::asked::compare` is safe and ends: a tape has fewer than 256 queries. Assumes nothing.
 use Prim.Native.Nat.{_≤_, _-_}
 use borrow.Author.Needs.{needs}
-use Rattle.replay_run.proofs.asked.compare.Statement.{statement}
-use Rattle.replay_run.proofs.asked.compare.Tie as tie
+use Rattle.stored_queries.proofs.asked.compare.Statement.{statement}
+use Rattle.stored_queries.proofs.asked.compare.Tie as tie
 
 abbrev Inv-loop : tie.InvT-loop
 Inv-loop n v modes words first tape counts₀ i₀ k₀ counts i k = k ≤ 256

@@ -1,10 +1,10 @@
--- `replay_run::slices::load_sizes` is safe and ends: it goes through the slice once. Assumes nothing.
+-- `stored_queries::slices::load_sizes` is safe and ends: it goes through the slice once. Assumes nothing.
 use mathlib.Core.Path.{_≡_}
 use Prim.Native.Nat.{_≤_, _-_}
 use lib.ListN.{length}
 use borrow.Author.Needs.{needs}
-use Rattle.replay_run.proofs.slices.load_sizes.Statement.{statement}
-use Rattle.replay_run.proofs.slices.load_sizes.Tie as tie
+use Rattle.stored_queries.proofs.slices.load_sizes.Statement.{statement}
+use Rattle.stored_queries.proofs.slices.load_sizes.Tie as tie
 
 abbrev Inv-loop : tie.InvT-loop
 Inv-loop v₀ words first i₀ v i = (i ≤ length v₀) × (length v ≡ length v₀)

@@ -1,9 +1,9 @@
--- `replay_run::slices::numbers` is safe and ends: it goes through the slice once. Assumes nothing.
+-- `stored_queries::slices::numbers` is safe and ends: it goes through the slice once. Assumes nothing.
 use Prim.Native.Nat.{_≤_, _-_}
 use lib.ListN.{length}
 use borrow.Author.Needs.{needs}
-use Rattle.replay_run.proofs.slices.numbers.Statement.{statement}
-use Rattle.replay_run.proofs.slices.numbers.Tie as tie
+use Rattle.stored_queries.proofs.slices.numbers.Statement.{statement}
+use Rattle.stored_queries.proofs.slices.numbers.Tie as tie
 
 abbrev Inv-loop : tie.InvT-loop
 Inv-loop v words first i₀ i = i ≤ length v

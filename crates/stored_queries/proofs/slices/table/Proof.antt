@@ -1,8 +1,8 @@
--- `replay_run::slices::table` is safe and ends: it goes through the slice once. Assumes nothing.
+-- `stored_queries::slices::table` is safe and ends: it goes through the slice once. Assumes nothing.
 use Prim.Native.Nat.{_≤_, _-_}
 use borrow.Author.Needs.{needs}
-use Rattle.replay_run.proofs.slices.table.Statement.{statement}
-use Rattle.replay_run.proofs.slices.table.Tie as tie
+use Rattle.stored_queries.proofs.slices.table.Statement.{statement}
+use Rattle.stored_queries.proofs.slices.table.Tie as tie
 
 abbrev Inv-loop : tie.InvT-loop
 Inv-loop v words first n i₀ i = i ≤ 128
