@@ -6,6 +6,7 @@ pub mod Pivots
 pub mod Elimination
 pub mod Congruent
 pub mod Pairing
+pub mod TwoRows
 pub mod Standing
 pub mod Listing
 pub mod SameShots

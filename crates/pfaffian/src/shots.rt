@@ -10,7 +10,7 @@ ghost use Rattle.laws.specs.Matrix.{at, Inside, Holds};
 ghost use Rattle.laws.specs.Tables.{modeAt};
 ghost use Rattle.pfaffian.specs.Work.{Kept};
 ghost use Rattle.pfaffian.specs.Shot.{maxModes, drawnOf, spinOf, drawFrom, bit, qubitBit, wordOf, shotOf};
-ghost use Rattle.pfaffian.specs.Turns.{laid, measuredRow, measured, laidPair, Measures, ShotListed};
+ghost use Rattle.pfaffian.specs.Turns.{laid, projectedBy, measuredRow, measured, laidPair, Measures, ShotListed};
 use num::clamp;
 use real::entry;
 use real::put;
@@ -31,33 +31,48 @@ fn lay_row(m: &mut [f64], dim: usize, i: usize, s: usize)
     }
 }
 
-// Row c right of the diagonal, by the rows a and a + 1.
-fn update_row(m: &mut [f64], dim: usize, a: usize, c: usize, f: f64)
-    requires { ⌜ Inside (now m) dim c (a + 1) ⌝ }
-    requires { ⌜ a + 2 ≤ c ⌝ }
-    ensures { λ _. ⌜ now (m .exit) ≡ measuredRow dim a f c (now (m .entry)) ⌝ }
+// An entry of the update, from itself and from what the rows a and a + 1 have in its row's and its column's place.
+fn projected(f: f64, old: f64, ac: f64, ae: f64, bc: f64, be: f64) -> f64
+    ensures { λ r. ⌜ r ≡ projectedBy f old ac ae bc be ⌝ }
 {
-    let mca = -entry(m, dim, a, c);
-    let mcb = -entry(m, dim, a + 1, c);
-    let mut e = c + 1;
+    old + f * (-bc * -ae - -ac * -be)
+}
+
+// The rows c and c + 1 right of the diagonal, by the rows a and a + 1, of which each entry is loaded once for both.
+fn update_two(m: &mut [f64], dim: usize, a: usize, c: usize, f: f64)
+    requires { ⌜ Inside (now m) dim (c + 1) (a + 1) ⌝ }
+    requires { ⌜ a + 2 ≤ c ⌝ }
+    ensures { λ _. ⌜ now (m .exit) ≡ measuredRow dim a f (c + 1) (measuredRow dim a f c (now (m .entry))) ⌝ }
+{
+    let b = a + 1;
+    let d = c + 1;
+    let ac = entry(m, dim, a, c);
+    let bc = entry(m, dim, b, c);
+    let ad = entry(m, dim, a, d);
+    let bd = entry(m, dim, b, d);
+    let between = entry(m, dim, c, d);
+    put(m, dim, c, d, projected(f, between, ac, ad, bc, bd));
+    let mut e = d + 1;
     while e < dim {
-        let mea = -entry(m, dim, a, e);
-        let meb = -entry(m, dim, a + 1, e);
-        let old = entry(m, dim, c, e);
-        put(m, dim, c, e, old + f * (mcb * mea - mca * meb));
+        let ae = entry(m, dim, a, e);
+        let be = entry(m, dim, b, e);
+        let upper = entry(m, dim, c, e);
+        let lower = entry(m, dim, d, e);
+        put(m, dim, c, e, projected(f, upper, ac, ae, bc, be));
+        put(m, dim, d, e, projected(f, lower, ad, ae, bd, be));
         e += 1;
     }
 }
 
-// All rows after the pair a, a + 1, which hold minus the columns.
+// All rows after the pair a, a + 1, which hold minus the columns. The last row has nothing right of the diagonal.
 fn update_rows(m: &mut [f64], dim: usize, a: usize, f: f64)
     requires { ⌜ Holds (now m) dim a 2 ⌝ }
     ensures { λ _. ⌜ now (m .exit) ≡ measured dim a f (now (m .entry)) ⌝ }
 {
     let mut c = a + 2;
-    while c < dim {
-        update_row(m, dim, a, c, f);
-        c += 1;
+    while 2 <= dim - c {
+        update_two(m, dim, a, c, f);
+        c += 2;
     }
 }
 
