@@ -3,12 +3,13 @@
 // and tests that the crates above share. Only a read of bytes asks anything of its caller: that the
 // bytes are there.
 
-pub mod bits; // bits.rt: f64 from and to its bits, little-endian numbers in bytes
-pub mod logic; // logic.rt: both, either
-pub mod order; // order.rt: abs, max, min, clamp
-pub mod root; // root.rt: the square root
-pub mod width; // width.rt: a u16 as a wider number
+mod bits; // bits.rt: f64 from and to its bits, little-endian numbers in bytes
+mod logic; // logic.rt: both, either
+mod order; // order.rt: abs, max, min, clamp
+mod root; // root.rt: the square root
+mod width; // width.rt: a u16 as a wider number
 
+pub use bits::SIGN;
 pub use bits::f64_at;
 pub use bits::from_bits;
 pub use bits::is_nan;

@@ -1,8 +1,7 @@
-// An entry of a table of u16 as a wider number.
+// An entry of a table of u16 as an index, and as a word.
 
 ghost use mathlib.Core.Path.{_≡_};
 
-// For an index.
 pub fn wide_index(x: u16) -> usize
     ensures { λ r. ⌜ r ≡ x ⌝ }
 {

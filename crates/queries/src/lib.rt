@@ -2,12 +2,12 @@
 // that it is about into lent work, runs a kernel of `pfaffian` there, and leaves the work zero. A public call asks nothing of its
 // caller: what is wrong with n, a slice, a list or the mode table is a refusal.
 
-pub mod basis; // basis.rt: the probability of a basis index
-pub mod lists; // lists.rt: the list of a query, as marks of modes
-pub mod marginals; // marginals.rt: the probability of some qubits' bits
-pub mod matrices; // matrices.rt: the matrix of the modes left, in work
-pub mod products; // products.rt: products of Z
-pub mod samples; // samples.rt: shots
+mod basis; // basis.rt: the probability of a basis index
+mod lists; // lists.rt: the list of a query, as marks of modes
+mod marginals; // marginals.rt: the probability of some qubits' bits
+mod matrices; // matrices.rt: the matrix of the modes left, in work
+mod products; // products.rt: products of Z
+mod samples; // samples.rt: shots
 
 pub use basis::probability;
 pub use marginals::marginal_probability;

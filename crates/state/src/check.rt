@@ -68,8 +68,8 @@ fn ones(n: usize) -> u64
 }
 
 // Each of the first n entries is below n, and each number below n is met: so no two are equal. The modes met are
-// bits of a word, and in turn of two, so that the processor takes two entries at once. The first is taken
-// before the pairs: then it does no harm to take it again.
+// the bits of two words, which take turns, so that the processor need not wait for one entry before the next. The
+// first entry is taken before the pairs: where n is even it is taken again, which does no harm.
 fn all_met(n: usize, modes: &[u16]) -> bool
     requires { ⌜ (0 < n) × (n ≤ 64) ⌝ }
     requires { ⌜ n ≤ length (now modes) ⌝ }

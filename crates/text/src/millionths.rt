@@ -7,7 +7,7 @@ ghost use Rattle.text.specs.Millionths.{rounded, million, inRange, signe
 ghost use Rattle.text.specs.Put.{Put};
 use crate::words::put;
 use crate::words::put_decimal;
-use num::bits::SIGN;
+use num::SIGN;
 
 const MILLION: u64 = 1000000;
 
