@@ -22,9 +22,9 @@ use Rattle.laws.proofs.Maps.{inside-yes, inside-below, inside-above}
 use Rattle.monomial.specs.Basis.{basis, IsBasis, signed}
 use Rattle.monomial.proofs.Moves.{basis-small}
 use Rattle.monomial.proofs.States.{modesAt, basis-apart}
+use Rattle.local.specs.State.{State, get}
+use Rattle.local.specs.Apply.{later, unsettled, settled, step}
 use Rattle.state.specs.Bounds.{dimOf}
-use Rattle.state.specs.State.{State, get}
-use Rattle.state.specs.Apply.{later, unsettled, settled, step}
 use Rattle.basis.specs.Holds.{HoldsBits}
 
 -- ---- two signs that go by modes

@@ -24,13 +24,13 @@ use Rattle.classify.specs.Diagonal.{unitOf, rotationMapOf}
 use Rattle.monomial.specs.Monomial.{unit, IsEntry, flip, Mono2, Mono4, Has2, Has4, bitA, bitB, IsMatchgate}
 use Rattle.monomial.specs.Basis.{basis}
 use Rattle.monomial.proofs.States.{fits-state, single-state, rotation-state}
+use Rattle.local.specs.State.{State, Stored, stateAt, vacuum, get}
+use Rattle.local.specs.Det.{odd}
+use Rattle.local.proofs.Stored.{Alike, read-back}
 use Rattle.state.specs.Bounds.{dimOf}
-use Rattle.state.specs.State.{State, Stored, stateAt, vacuum, get}
-use Rattle.state.specs.Det.{odd}
 use Rattle.state.specs.Operation.{effect}
 use Rattle.state.specs.Modes.{isPermutation}
 use Rattle.state.specs.declared.operation.Operation.the-variants.{One, Two}
-use Rattle.state.proofs.Stored.{Alike, read-back}
 use Rattle.queries.specs.Calls.{covarianceOf}
 use Rattle.basis.specs.Holds.{HoldsBits, Reads}
 use Rattle.basis.proofs.Settling.{get-basis, step-holds}

@@ -11,8 +11,8 @@ use Rattle.laws.specs.Matrix.{Mat}
 use Rattle.laws.specs.Tables.{modeAt}
 use Rattle.laws.specs.Bounds.{maxQubits}
 use Rattle.monomial.specs.Basis.{IsBasis}
+use Rattle.local.specs.State.{State}
 use Rattle.state.specs.Bounds.{dimOf}
-use Rattle.state.specs.State.{State}
 use Rattle.state.specs.Modes.{isPermutation}
 
 -- t holds the basis state of the bits b on n modes. The two signs of a mode are the same, 1.0 or -1.0: they turn together or not at all

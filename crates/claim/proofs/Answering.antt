@@ -13,13 +13,14 @@ use Rattle.laws.specs.Bounds.{maxQubits}
 use Rattle.laws.proofs.Tests.{and-left, and-right}
 use Rattle.tape.specs.Parse.{Content, accepted, parse}
 use Rattle.tape.specs.declared.header.Header.{Header}
-use Rattle.state.specs.Bounds.{dimOf, statePlaces}
-use Rattle.state.specs.State.{stored}
+use Rattle.local.specs.Bounds.{statePlaces}
+use Rattle.local.specs.State.{stored}
+use Rattle.local.proofs.Stored.{stored-is}
+use Rattle.state.specs.Bounds.{dimOf}
 use Rattle.state.specs.Questions.{stateOk}
 use Rattle.state.specs.Answers.{refused}
 use Rattle.state.specs.Answers as Answers
 use Rattle.state.specs.Calls.{expectationZOf}
-use Rattle.state.proofs.Stored.{stored-is}
 use Rattle.queries.specs.Lists.{badPlace, oddModes, bitsOk, stopPlace, asked, notedModes}
 use Rattle.queries.specs.Products.{dimLeft, productOf}
 use Rattle.queries.specs.Marginals.{markedOf}

@@ -16,7 +16,7 @@ use Rattle.resolve.specs.Items.{Item, one, two, opaque}
 use Rattle.detect.specs.Counts.{twoShare}
 use Rattle.detect.specs.Operation.{interaction}
 use Rattle.detect.specs.Emit.{rotationsOf, twoOperations, itemOperations, operationsOf}
-use Rattle.state.specs.State.{State, vacuum}
+use Rattle.local.specs.State.{State, vacuum}
 use Rattle.basis.specs.Holds.{HoldsBits}
 use Rattle.basis.proofs.Steps.{vacuum-holds}
 use Rattle.evolve.specs.Evolve.{evolvedFrom}

@@ -20,7 +20,7 @@ use Rattle.monomial.proofs.Algebra.{renamed-has, renamed-fits}
 use Rattle.order.specs.Arrangement.{besideOf}
 use Rattle.detect.specs.Emit.{orientedOf, lowerOf}
 use Rattle.detect.specs.Operation.{one, two}
-use Rattle.state.specs.State.{State}
+use Rattle.local.specs.State.{State}
 use Rattle.basis.specs.Holds.{HoldsBits}
 use Rattle.basis.proofs.Steps.{one-holds, two-holds}
 use Rattle.evolve.specs.Evolve.{evolvedFrom}

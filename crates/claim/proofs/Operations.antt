@@ -7,7 +7,7 @@ use Rattle.real.specs.declared.maps.Map2.{Map2}
 use Rattle.real.specs.declared.maps.Map4.{Map4}
 use Rattle.gate.specs.declared.complex.Complex.{Complex}
 use Rattle.detect.specs.Operation.{Operation, one, two, interaction, placesOf}
-use Rattle.state.specs.State.{State}
+use Rattle.local.specs.State.{State}
 use Rattle.state.specs.Operation.{effect, decodeOf}
 use Rattle.state.specs.declared.operation.Operation.the-variants.{One, Two}
 use Rattle.evolve.specs.Evolve.{decodedEffect, evolvedFrom}

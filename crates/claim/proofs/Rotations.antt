@@ -17,7 +17,7 @@ use Rattle.monomial.proofs.Diagonals.{diagonal, phase-a, phase-b}
 use Rattle.monomial.proofs.Rotations.{rotation-is}
 use Rattle.detect.specs.Emit.{rotated, rotationsOf}
 use Rattle.detect.specs.Operation.{interaction}
-use Rattle.state.specs.State.{State}
+use Rattle.local.specs.State.{State}
 use Rattle.basis.specs.Holds.{HoldsBits}
 use Rattle.basis.proofs.Steps.{rotation-holds}
 use Rattle.evolve.specs.Evolve.{evolvedFrom}

@@ -10,15 +10,16 @@ use lib.Ieee.{Float}
 use Rattle.laws.specs.Bounds.{opPlaces}
 use Rattle.detect.specs.Operation.{Operation, placesOf, allPlaces, written}
 use Rattle.detect.proofs.Placing.{length-places}
-use Rattle.state.specs.Bounds.{dimOf, statePlaces}
-use Rattle.state.specs.State.{State, stored, vacuum}
+use Rattle.local.specs.Bounds.{statePlaces}
+use Rattle.local.specs.State.{State, stored, vacuum}
+use Rattle.local.proofs.Stored.{stored-is, is-stored, is-then}
+use Rattle.state.specs.Bounds.{dimOf}
 use Rattle.state.specs.Operation.{decodeOf, Fits}
 use Rattle.state.specs.Calls.{decodedState}
 use Rattle.state.specs.declared.operation.Operation as state
 use Rattle.state.specs.declared.operation.Decoded.{Decoded}
 use Rattle.state.specs.declared.operation.Decoded.the-variants.{Good, Bad}
 use Rattle.state.proofs.Operations.{decode-fits}
-use Rattle.state.proofs.Stored.{stored-is, is-stored, is-then}
 use Rattle.state.proofs.Steps.{applied-more}
 use Rattle.evolve.specs.Evolve.{decodedEffect, evolvedFrom, evolved, evolvedIn}
 

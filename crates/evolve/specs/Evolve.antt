@@ -6,7 +6,7 @@ use lib.Ieee.{Float}
 use Rattle.laws.specs.Lists.{All}
 use Rattle.laws.specs.Bounds.{opPlaces}
 use Rattle.detect.specs.Operation.{Operation, one, two, interaction, placesOf}
-use Rattle.state.specs.State.{State, vacuum}
+use Rattle.local.specs.State.{State, vacuum}
 use Rattle.state.specs.Operation.{interactionAt, decodeOf, effect, Fits}
 use Rattle.state.specs.declared.operation.Operation as state
 use Rattle.state.specs.declared.operation.Operation.the-variants.{One, Two}

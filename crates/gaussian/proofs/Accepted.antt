@@ -14,8 +14,8 @@ use Rattle.detect.specs.declared.report.Answer.{Answer}
 use Rattle.detect.specs.Operation.{written}
 use Rattle.detect.specs.Report.{freeOf, reportOf}
 use Rattle.detect.specs.Compile.{tapeCounts, reportedOf, programOf, hasWork, done}
+use Rattle.local.specs.State.{stored}
 use Rattle.state.specs.Bounds.{dimOf}
-use Rattle.state.specs.State.{stored}
 use Rattle.evolve.specs.Evolve.{evolved}
 use Rattle.gaussian.specs.Run.{verdictOf, judged, askedOf, answerOf, opsAfter, stateAfter, asked, ran, ranOps, ranState}
 use Rattle.gaussian.proofs.Verdicts.{Passes, verdict-passes, passes-verdict}

@@ -22,8 +22,8 @@ use Rattle.detect.specs.Program.{Detected}
 use Rattle.detect.proofs.Placing.{length-placed}
 use Rattle.detect.proofs.Answering.{reported-free, reported-operations, emits-fit, writes}
 use Rattle.detect.proofs.Checking.{taken, refused-is}
+use Rattle.local.specs.State.{stored, vacuum}
 use Rattle.state.specs.Bounds.{dimOf}
-use Rattle.state.specs.State.{stored, vacuum}
 use Rattle.evolve.specs.Evolve.{evolved, evolvedIn}
 use Rattle.evolve.proofs.Evolving.{evolved-written}
 use Rattle.gaussian.specs.Run.{verdictOf, askedReport, askedWork, askedOf}

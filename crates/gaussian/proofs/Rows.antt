@@ -20,7 +20,8 @@ use Rattle.detect.specs.declared.report.Compiled.{Compiled}
 use Rattle.detect.specs.Report.{freeOf, reportOf}
 use Rattle.detect.specs.Compile.{itemsOf, modeOfWire, tapeCounts, reportedOf, workFloats, workMarks, hasWork, refusal, done}
 use Rattle.detect.proofs.Sums.{counts-add}
-use Rattle.state.specs.Bounds.{dimOf, statePlaces}
+use Rattle.local.specs.Bounds.{statePlaces}
+use Rattle.state.specs.Bounds.{dimOf}
 use Rattle.gaussian.specs.Run.{allApart, interacts, bytesOf, verdictOf, judged, askedOf, answerOf, ran}
 use Rattle.gaussian.proofs.Verdicts.{passes-verdict}
 

@@ -8,7 +8,8 @@ use borrow.Author.Tests.{le-ltb, ltb-false, eq-eqb}
 use Rattle.laws.specs.Bounds.{opPlaces}
 use Rattle.tape.specs.declared.header.Header.{Header}
 use Rattle.detect.specs.declared.report.Report.{Report}
-use Rattle.state.specs.Bounds.{dimOf, statePlaces}
+use Rattle.local.specs.Bounds.{statePlaces}
+use Rattle.state.specs.Bounds.{dimOf}
 use Rattle.gaussian.specs.Run.{allApart, interacts, bytesOf, verdictOf}
 
 -- the questions 10 to 15 are answered yes; with no bad blocks 11 is

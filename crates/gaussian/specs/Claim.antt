@@ -13,7 +13,8 @@ use Rattle.tape.specs.declared.gates.Gate.{Gate}
 use Rattle.detect.specs.Compile.{hasWork, programOf}
 use Rattle.detect.specs.declared.report.Answer.{Answer}
 use Rattle.detect.specs.declared.report.Compiled.{Compiled}
-use Rattle.state.specs.Bounds.{dimOf, statePlaces}
+use Rattle.local.specs.Bounds.{statePlaces}
+use Rattle.state.specs.Bounds.{dimOf}
 use Rattle.register.specs.Register.{RegisterTape, registerBits}
 use Rattle.register.specs.Follows.{PlainGate}
 use Rattle.claim.specs.Queries.{Query, answers, RightAnswers}

@@ -13,8 +13,9 @@ use Rattle.detect.specs.declared.report.Report.{Report}
 use Rattle.detect.specs.declared.report.Compiled.{Compiled}
 use Rattle.detect.specs.Operation.{written}
 use Rattle.detect.specs.Compile.{hasWork, reportedOf, programOf, refusal, done, compiledWork, compiledMarks}
-use Rattle.state.specs.Bounds.{dimOf, statePlaces}
-use Rattle.state.specs.State.{stored}
+use Rattle.local.specs.Bounds.{statePlaces}
+use Rattle.local.specs.State.{stored}
+use Rattle.state.specs.Bounds.{dimOf}
 use Rattle.evolve.specs.Evolve.{evolved}
 
 -- ---- the questions 10 to 15, of the report

@@ -9,8 +9,8 @@ use lib.Ieee.{Float}
 use Rattle.laws.specs.Zeros.{+0}
 use Rattle.laws.specs.Slices.{filled}
 use Rattle.laws.specs.Matrix.{Mat}
+use Rattle.local.specs.State.{stateAt, get}
 use Rattle.state.specs.Bounds.{dimOf}
-use Rattle.state.specs.State.{stateAt, get}
 use Rattle.state.specs.Questions.{stateOk}
 use Rattle.state.specs.Answers.{Told, accepted, refused}
 use Rattle.queries.specs.Lists.{badPlace, oddModes, bitsOk, stopPlace, asked, notedModes}

@@ -8,7 +8,8 @@ use lib.Ieee.{Float, binary64, add, sub}
 use Rattle.laws.specs.Matrix.{Mat, at, matrix}
 use Rattle.laws.specs.Steps.{Mask, masked, inRow}
 use Rattle.laws.specs.Bounds.{maxQubits}
-use Rattle.state.specs.Bounds.{dimOf, statePlaces}
+use Rattle.local.specs.Bounds.{statePlaces}
+use Rattle.state.specs.Bounds.{dimOf}
 use Rattle.queries.specs.Marginals.{halfSpinOf, shifted}
 
 -- the marks of the modes below n are those of f

@@ -5,7 +5,7 @@ ghost use Prim.Native.Nat.{_+_, _*_, _≤_, _<_};
 ghost use lib.ListN.{length};
 ghost use Rattle.laws.specs.Matrix.{matrix, Inside};
 ghost use Rattle.pfaffian.specs.Work.{Kept};
-ghost use Rattle.state.specs.State.{stateAt, get};
+ghost use Rattle.local.specs.State.{stateAt, get};
 ghost use Rattle.state.specs.Answers.{done};
 ghost use Rattle.state.specs.Parts.{HasEntry};
 ghost use Rattle.queries.specs.Samples.{drawOkOf, badDrawOf, sampled};

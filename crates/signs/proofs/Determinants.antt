@@ -14,11 +14,11 @@ use Rattle.laws.specs.Matrix.{Mat}
 use Rattle.laws.proofs.Zeros.{sub-cong, mul-cong, div-cong, neg-cong, cond-cong, le-cong, eq-cong, lt-cong}
 use Rattle.num.specs.Order.{absOf}
 use Rattle.num.proofs.Alike.{nan-nz, abs-cong}
-use Rattle.state.specs.declared.det.Best.{Best}
+use Rattle.local.specs.declared.det.Best.{Best}
 use Rattle.signs.specs.Majoranas.{Four, c0, c1, c2, c3, num₁, num, Row}
 use Rattle.signs.specs.Circuits.{unitRow}
 use Rattle.signs.proofs.Permutations.{row, allRows₁, allRows₁→, allRows, allRows→, implies, by-implies, differ, distinct, odd₁, odd}
-use Rattle.state.specs.Det.{Line, headOf, tailOf, notBelow, betterOf, lastLargest, pivotRow, put, otherRows, less, loweredAll, eliminated, lines, det}
+use Rattle.local.specs.Det.{Line, headOf, tailOf, notBelow, betterOf, lastLargest, pivotRow, put, otherRows, less, loweredAll, eliminated, lines, det}
 
 -- ---- equal up to the sign of a zero: rows, and lists of rows
 

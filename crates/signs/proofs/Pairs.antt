@@ -12,7 +12,7 @@ use Rattle.laws.specs.Zeros.{+0, nz}
 use Rattle.laws.specs.Phase.{Phase, i0, i2, i3, _⊕_}
 use Rattle.laws.proofs.Cases.{lt-or-le, eq-or-ne}
 use Rattle.laws.proofs.Phases.{comm, cancel, right-none, eqPhase}
-use Rattle.state.specs.State.{vacuum}
+use Rattle.local.specs.State.{vacuum}
 use Rattle.signs.specs.Paulis.{sgn, Pauli, pr, ph, Str, signed, phases, mul, Value, nought, plus, minus, turn, float}
 use Rattle.signs.specs.Paulis.{real, flips, expectation}
 use Rattle.signs.specs.Majoranas.{xy, gamma, paired}

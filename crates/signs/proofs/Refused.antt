@@ -8,8 +8,8 @@ use lib.Ieee.{neg, lt, add, sub, mul, div, le, eq, isNan}
 use Rattle.laws.specs.Views.{upFrom}
 use Rattle.laws.specs.Maps.{dot}
 use Rattle.num.specs.Order.{absOf}
-use Rattle.state.specs.State.{State, vacuum}
-use Rattle.state.specs.Det.{odd, det, eliminated, lastLargest, betterOf, loweredAll, less}
+use Rattle.local.specs.State.{State, vacuum}
+use Rattle.local.specs.Det.{odd, det, eliminated, lastLargest, betterOf, loweredAll, less}
 use Rattle.state.specs.Operation.{effect}
 use Rattle.state.specs.declared.operation.Operation.{Operation}
 use Rattle.state.specs.declared.operation.Operation.the-variants.{One, Two, Interaction}

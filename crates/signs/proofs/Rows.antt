@@ -9,7 +9,7 @@ use native.Mathlib.Omega.{arith}
 use lib.Dec.{lit<}
 use lib.ListN.{getD}
 use Rattle.laws.specs.Zeros.{+0, +1, nz}
-use Rattle.state.specs.State.{vacuum, get}
+use Rattle.local.specs.State.{vacuum, get}
 use Rattle.state.specs.Calls.{zOf}
 use Rattle.state.specs.Operation.{effect, Fits}
 use Rattle.queries.specs.Products.{productOf}

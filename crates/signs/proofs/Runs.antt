@@ -13,11 +13,12 @@ use Rattle.laws.specs.Phase.{Phase, i3}
 use Rattle.real.specs.Maps.{local2, local4}
 use Rattle.real.specs.declared.maps.Map2.{Map2}
 use Rattle.real.specs.declared.maps.Map4.{Map4}
-use Rattle.state.specs.Bounds.{dimOf, statePlaces}
-use Rattle.state.specs.State.{State, stateAt, stored, vacuum}
-use Rattle.state.specs.Det.{odd}
+use Rattle.local.specs.Bounds.{statePlaces}
+use Rattle.local.specs.State.{State, stateAt, stored, vacuum}
+use Rattle.local.specs.Det.{odd}
+use Rattle.local.proofs.Stored.{stored-is}
+use Rattle.state.specs.Bounds.{dimOf}
 use Rattle.state.specs.Operation.{effect, Fits}
-use Rattle.state.proofs.Stored.{stored-is}
 use Rattle.signs.specs.Paulis.{sgn, Str, times, signed, mul, identity}
 use Rattle.signs.specs.Blocks.{Block₁, Block, on₁, on}
 use Rattle.signs.specs.Majoranas.{gamma, paired, Four, c0, c1, c2, c3, num₁, num}

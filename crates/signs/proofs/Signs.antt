@@ -10,14 +10,15 @@ use lib.ListN.{length}
 use lib.Ieee.{Float}
 use Rattle.laws.specs.Zeros.{nz}
 use Rattle.laws.specs.Bounds.{maxQubits}
-use Rattle.state.specs.Bounds.{dimOf, statePlaces}
+use Rattle.local.specs.Bounds.{statePlaces}
+use Rattle.local.specs.State.{State, stateAt, stored, vacuum, get}
+use Rattle.local.proofs.Stored.{stored-is}
+use Rattle.state.specs.Bounds.{dimOf}
 use Rattle.state.specs.Modes.{isPermutation}
 use Rattle.state.specs.Questions.{stateOk}
-use Rattle.state.specs.State.{State, stateAt, stored, vacuum, get}
 use Rattle.state.specs.Calls.{zOf, decodedState, applyState}
 use Rattle.state.specs.Operation.{decodeOf, effect, applied}
 use Rattle.state.specs.declared.operation.Decoded.the-variants.{Good}
-use Rattle.state.proofs.Stored.{stored-is}
 use Rattle.state.proofs.Questions.{asked}
 use Rattle.signs.specs.Paulis.{float, expectation}
 use Rattle.signs.specs.Majoranas.{gamma, paired, zs}

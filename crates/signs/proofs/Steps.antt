@@ -14,9 +14,9 @@ use Rattle.laws.specs.Matrix.{Mat}
 use Rattle.laws.specs.Maps.{Local, inside, rows, cols}
 use Rattle.laws.proofs.Cases.{lt-or-le}
 use Rattle.laws.proofs.Maps.{inside-yes, inside-below, inside-above}
-use Rattle.state.specs.State.{State, get}
-use Rattle.state.specs.Det.{odd}
-use Rattle.state.specs.Apply.{later, settled, step}
+use Rattle.local.specs.State.{State, get}
+use Rattle.local.specs.Det.{odd}
+use Rattle.local.specs.Apply.{later, settled, step}
 use Rattle.signs.specs.Paulis.{Str, signed, Value, nought, plus, minus, turn, float, expectation}
 use Rattle.signs.specs.Majoranas.{gamma, paired}
 use Rattle.signs.proofs.Tables.{xor-none}

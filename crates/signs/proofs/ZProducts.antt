@@ -11,7 +11,7 @@ use borrow.Author.Tests.{ne-eqb}
 use Rattle.laws.specs.Zeros.{+0, +1, nz}
 use Rattle.laws.specs.Matrix.{Mat}
 use Rattle.laws.specs.Phase.{i2}
-use Rattle.state.specs.State.{State, get}
+use Rattle.local.specs.State.{State, get}
 use Rattle.pfaffian.specs.Pfaffian.{pf, pfaffianOf}
 use Rattle.queries.specs.Products.{indexOf, restricted, productOf}
 use Rattle.signs.specs.Paulis.{Str, times, signed, mul, identity, plus, float, expectation}

@@ -8,9 +8,9 @@ use Rattle.laws.specs.Zeros.{+1}
 use Rattle.laws.specs.Maps.{Local, rows, cols}
 use Rattle.laws.specs.Steps.{negated}
 use Rattle.real.specs.Maps.{local2, local4}
-use Rattle.state.specs.State.{State}
-use Rattle.state.specs.Det.{odd}
-use Rattle.state.specs.Apply.{later, unsettled}
+use Rattle.local.specs.State.{State}
+use Rattle.local.specs.Det.{odd}
+use Rattle.local.specs.Apply.{later, unsettled}
 use Rattle.state.specs.declared.operation.Operation.the-variants.{One, Two, Interaction}
 use Rattle.signs.specs.Signs.{Engine}
 

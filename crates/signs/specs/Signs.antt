@@ -10,8 +10,9 @@ use Prim.Native.Nat.{ℕ, _*_, _≤_, _<_}
 use lib.ListN.{length}
 use lib.Ieee.{Float}
 use Rattle.laws.specs.Zeros.{nz}
-use Rattle.state.specs.Bounds.{dimOf, statePlaces}
-use Rattle.state.specs.State.{State, stateAt, stored, vacuum, get}
+use Rattle.local.specs.Bounds.{statePlaces}
+use Rattle.local.specs.State.{State, stateAt, stored, vacuum, get}
+use Rattle.state.specs.Bounds.{dimOf}
 use Rattle.state.specs.Operation.{applied, decodeOf}
 use Rattle.state.specs.Questions.{stateOk}
 use Rattle.state.specs.Calls.{zOf, applyState}

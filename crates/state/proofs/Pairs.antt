@@ -19,10 +19,10 @@ use Rattle.laws.proofs.Cases.{eq-or-ne}
 use Rattle.laws.proofs.Slices.{length-put, put-before, put-inside, put-after, length-mapped, mapped-done, mapped-left}
 use Rattle.laws.proofs.Matrix.{place-in, matrix-is, at-set-same, at-set-other, after-set}
 use Rattle.laws.proofs.Loops.{more, up-left}
-use Rattle.state.specs.Bounds.{statePlaces}
-use Rattle.state.specs.State.{vacuum, stored}
+use Rattle.local.specs.Bounds.{statePlaces}
+use Rattle.local.specs.State.{vacuum, stored}
+use Rattle.local.proofs.Stored.{is-stored}
 use Rattle.state.specs.Parts.{pairUpOf}
-use Rattle.state.proofs.Stored.{is-stored}
 
 -- ---- an entry of a pair, and any other
 

@@ -11,7 +11,8 @@ use lib.Ieee.{Float}
 use borrow.Author.Tests.{leb-true}
 use Rattle.laws.specs.Bounds.{maxQubits}
 use Rattle.laws.proofs.Tests.{and-left, and-right}
-use Rattle.state.specs.Bounds.{dimOf, statePlaces}
+use Rattle.local.specs.Bounds.{statePlaces}
+use Rattle.state.specs.Bounds.{dimOf}
 use Rattle.state.specs.Modes.{isPermutation}
 use Rattle.state.specs.Questions.{stateOk}
 

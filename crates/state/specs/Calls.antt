@@ -8,8 +8,8 @@ use lib.Ieee.{Float}
 use Rattle.laws.specs.Zeros.{+0}
 use Rattle.laws.specs.Matrix.{Mat}
 use Rattle.laws.specs.Tables.{modeAt}
+use Rattle.local.specs.State.{stateAt, get}
 use Rattle.state.specs.Bounds.{dimOf}
-use Rattle.state.specs.State.{stateAt, get}
 use Rattle.state.specs.Operation.{decodeOf, applied}
 use Rattle.state.specs.Questions.{stateOk}
 use Rattle.state.specs.Answers.{Told, accepted, refused}

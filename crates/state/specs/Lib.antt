@@ -1,8 +1,5 @@
 -- What the contracts of `state` speak of. Definitions only.
 pub mod Bounds
-pub mod State
-pub mod Det
-pub mod Apply
 pub mod Operation
 pub mod Modes
 pub mod Answers

@@ -12,10 +12,10 @@ use Rattle.real.specs.declared.maps.Real2.{Real2}
 use Rattle.real.specs.declared.maps.Map2.{Map2}
 use Rattle.real.specs.declared.maps.Real4.{Real4}
 use Rattle.real.specs.declared.maps.Map4.{Map4}
+use Rattle.local.specs.State.{State, stateAt, stored}
+use Rattle.local.specs.Det.{odd}
+use Rattle.local.specs.Apply.{step}
 use Rattle.state.specs.Bounds.{dimOf}
-use Rattle.state.specs.State.{State, stateAt, stored}
-use Rattle.state.specs.Det.{odd}
-use Rattle.state.specs.Apply.{step}
 use Rattle.state.specs.declared.operation.Operation.{Operation}
 use Rattle.state.specs.declared.operation.Operation.the-variants.{One, Two, Interaction}
 use Rattle.state.specs.declared.operation.Mode.{Mode}

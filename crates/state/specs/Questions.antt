@@ -6,7 +6,8 @@ use lib.Dec.{leb}
 use lib.ListN.{length}
 use lib.Ieee.{Float}
 use Rattle.laws.specs.Bounds.{maxQubits}
-use Rattle.state.specs.Bounds.{dimOf, statePlaces}
+use Rattle.local.specs.Bounds.{statePlaces}
+use Rattle.state.specs.Bounds.{dimOf}
 use Rattle.state.specs.Modes.{isPermutation}
 
 -- "is n at most 128, the slice long enough, the mode table's first n a permutation?"

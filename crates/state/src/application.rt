@@ -8,11 +8,11 @@ ghost use Rattle.state.specs.Parts.{HasState};
 use super::answer::Applied;
 use super::answer::Refusal;
 use super::check::state_ok;
-use super::local::apply_local2;
-use super::local::apply_local4;
 use super::operation::Decoded;
 use super::operation::Operation;
 use super::operation::decode;
+use local::apply_local2;
+use local::apply_local4;
 
 // By its cases, to a state of n qubits.
 pub fn apply_operation(n: usize, state: &mut [f64], o: Operation)

@@ -1,7 +1,7 @@
 // An entry of the covariance with its signs, and what one entry answers: Z of a qubit.
 
 ghost use mathlib.Core.Path.{_≡_};
-ghost use Rattle.state.specs.State.{stateAt, get};
+ghost use Rattle.local.specs.State.{stateAt, get};
 ghost use Rattle.state.specs.Answers.{told};
 ghost use Rattle.state.specs.Calls.{expectationZOf};
 ghost use Rattle.state.specs.Parts.{HasEntry};

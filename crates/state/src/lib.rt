@@ -4,15 +4,9 @@
 
 mod answer; // what the calls answer
 mod application; // an operation applied to the state
-mod both; // both steps of a map of one mode
 mod check; // question 16
-mod columns; // the columns step of a map of two modes
-mod det; // the determinant of a map
 mod expectation; // an entry of the covariance, and Z of one qubit
-mod local; // a map applied to the state
 mod operation; // operations, decoded from their places
-mod rows; // the rows step of a map of two modes
-mod signs; // the signs d settled and turned
 pub mod vacuum; // the first state: for the crates above, like those named last
 
 // for users

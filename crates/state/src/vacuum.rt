@@ -2,9 +2,9 @@
 
 ghost use mathlib.Core.Path.{_≡_};
 ghost use Rattle.laws.specs.Matrix.{at, matrix};
+ghost use Rattle.local.specs.State.{stored};
+ghost use Rattle.local.specs.State as spec;
 ghost use Rattle.state.specs.Bounds.{dimOf};
-ghost use Rattle.state.specs.State.{stored};
-ghost use Rattle.state.specs.State as spec;
 ghost use Rattle.state.specs.Parts.{HasState, pairUpOf};
 use real::fill;
 use real::put;

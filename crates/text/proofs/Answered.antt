@@ -10,7 +10,8 @@ use Rattle.laws.specs.Bounds.{maxQubits}
 use Rattle.tape.specs.Parse.{Content, accepted, parse}
 use Rattle.tape.specs.declared.header.Header.{Header}
 use Rattle.detect.specs.Compile.{reportedOf, programOf}
-use Rattle.state.specs.Bounds.{dimOf, statePlaces}
+use Rattle.local.specs.Bounds.{statePlaces}
+use Rattle.state.specs.Bounds.{dimOf}
 use Rattle.state.specs.Questions.{stateOk}
 use Rattle.state.specs.Calls.{expectationZOf}
 use Rattle.evolve.specs.Evolve.{evolved}

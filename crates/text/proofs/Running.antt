@@ -16,7 +16,8 @@ use Rattle.detect.specs.declared.report.Report.{Report}
 use Rattle.detect.specs.declared.report.Answer.the-variants.{Done, Refused}
 use Rattle.detect.specs.Report.{reportOf, noReport}
 use Rattle.detect.specs.Compile.{workFloats, workMarks, hasWork, reportedOf}
-use Rattle.state.specs.Bounds.{dimOf, statePlaces}
+use Rattle.local.specs.Bounds.{statePlaces}
+use Rattle.state.specs.Bounds.{dimOf}
 use Rattle.gaussian.specs.Run.{verdictOf, judged, askedOf, answerOf, stateAfter}
 use Rattle.text.specs.Bounds.{printedGates, printedQubits}
 use Rattle.text.specs.Lines.{refusedLine}

@@ -11,8 +11,9 @@ use Rattle.tape.specs.Parse.{Parsed, Content, refused, accepted, parse}
 use Rattle.tape.specs.declared.header.Header.{Header}
 use Rattle.detect.specs.declared.report.Report.{Report}
 use Rattle.detect.specs.Compile.{reportedOf, programOf}
-use Rattle.state.specs.Bounds.{dimOf, statePlaces}
-use Rattle.state.specs.State.{stored}
+use Rattle.local.specs.Bounds.{statePlaces}
+use Rattle.local.specs.State.{stored}
+use Rattle.state.specs.Bounds.{dimOf}
 use Rattle.state.specs.Calls.{expectationZOf}
 use Rattle.evolve.specs.Evolve.{evolved}
 use Rattle.gaussian.specs.Run.{askedReport}

@@ -6,8 +6,9 @@ use native.Mathlib.Numerals.{add-one}
 use native.Mathlib.Omega.{arith}
 use borrow.Author.Needs.{needs}
 use lib.ListN.{length, take, drop}
-use Rattle.state.specs.Bounds.{dimOf, statePlaces}
-use Rattle.state.specs.State.{stored, vacuum}
+use Rattle.local.specs.Bounds.{statePlaces}
+use Rattle.local.specs.State.{stored, vacuum}
+use Rattle.state.specs.Bounds.{dimOf}
 use Rattle.state.specs.Operation.{decodeOf}
 use Rattle.state.specs.Calls.{decodedState}
 use Rattle.evolve.specs.Evolve.{evolvedIn}

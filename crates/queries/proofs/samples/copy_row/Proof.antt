@@ -4,7 +4,7 @@ use native.Mathlib.Omega.{arith}
 use borrow.Author.Needs.{needs}
 use lib.ListN.{getD}
 use lib.Ieee.{nan, binary64, mul}
-use Rattle.state.specs.State.{stateAt, get}
+use Rattle.local.specs.State.{stateAt, get}
 use Rattle.queries.proofs.Filling.{RowUpTo, row-start, row-more, row-done}
 use Rattle.queries.proofs.samples.copy_row.Statement.{statement}
 use Rattle.queries.proofs.samples.copy_row.Tie as tie

@@ -1,9 +1,9 @@
 -- `state::application::apply_operation` meets its contract, by the cases of the operation. Assumes nothing.
 use native.Mathlib.Omega.{arith}
 use borrow.Author.Needs.{needs}
+use Rattle.local.proofs.Stored.{stored-same}
 use Rattle.state.specs.Bounds.{dimOf}
 use Rattle.state.specs.Operation.{effect}
-use Rattle.state.proofs.Stored.{stored-same}
 use Rattle.state.proofs.Operations.{fits-one, fits-two}
 use Rattle.state.proofs.application.apply_operation.Statement.{statement}
 use Rattle.state.proofs.application.apply_operation.Tie as tie
