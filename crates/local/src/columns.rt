@@ -1,10 +1,10 @@
 // The columns step of 001's `apply_local`: each row's middle part is lent on and put under the map there.
 
 ghost use mathlib.Core.Path.{_≡_};
-ghost use Prim.Native.Nat.{_+_, _*_};
+ghost use Prim.Native.Nat.{_+_, _*_, _<_};
 ghost use lib.ListN.{length};
 ghost use Rattle.laws.specs.Matrix.{at, matrix, Holds};
-ghost use Rattle.laws.specs.Maps.{dot, rotated, cols};
+ghost use Rattle.laws.specs.Maps.{dot, rotated, cols, rowTurn};
 ghost use Rattle.real.specs.Maps.{row2, row4, entry2, entry4, local4};
 use real::Map2;
 use real::Map4;
@@ -53,15 +53,28 @@ fn rotate4(row: &mut [f64], q: Map4)
     row[3] = dot4(q.r3, v);
 }
 
-// In each row the map's columns, from s on, are put under the map.
-pub fn columns4(m: &mut [f64], dim: usize, s: usize, q: Map4)
+// In row r the map's columns, from s on, are put under the map.
+fn map_row4(m: &mut [f64], dim: usize, s: usize, r: usize, q: Map4)
     requires { ⌜ Holds (now m) dim s 4 ⌝ }
-    ensures { λ _. ⌜ now (m .exit) ≡ matrix dim (cols (local4 s q) (at dim (now (m .entry)))) (now (m .entry)) ⌝ }
+    requires { ⌜ r < dim ⌝ }
+    ensures { λ _. ⌜ now (m .exit) ≡ rowTurn (local4 s q) dim r (now (m .entry)) ⌝ }
 {
-    let mut r = 0;
-    while r < dim {
-        let a = r * dim + s;
-        rotate4(&mut m[a..a + 4], q);
-        r += 1;
+    let a = r * dim + s;
+    rotate4(&mut m[a..a + 4], q);
+}
+
+// In each row the columns of two modes are put under the map, two rows a turn.
+pub fn columns4(m: &mut [f64], n: usize, mode: usize, q: Map4)
+    requires { ⌜ Holds (now m) (2 * n) (2 * mode) 4 ⌝ }
+    ensures { λ _. ⌜ now (m .exit) ≡ matrix (2 * n) (cols (local4 (2 * mode) q) (at (2 * n) (now (m .entry)))) (now (m .entry)) ⌝ }
+{
+    let dim = 2 * n;
+    let s = 2 * mode;
+    let mut t = 0;
+    while t < n {
+        let k = 2 * t;
+        map_row4(m, dim, s, k, q);
+        map_row4(m, dim, s, k + 1, q);
+        t += 1;
     }
 }

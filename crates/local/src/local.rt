@@ -32,13 +32,15 @@ pub fn apply_local2(state: &mut [f64], n: usize, mode: usize, q: Map2)
     }
 }
 
-pub fn apply_local4(state: &mut [f64], dim: usize, s: usize, q: Map4)
-    requires { ⌜ HasBand (now state) dim s 4 ⌝ }
-    ensures { λ _. ⌜ now (state .exit) ≡ stored dim (step odd (local4 s q) (stateAt dim (now (state .entry)))) (now (state .entry)) ⌝ }
+pub fn apply_local4(state: &mut [f64], n: usize, mode: usize, q: Map4)
+    requires { ⌜ HasBand (now state) (2 * n) (2 * mode) 4 ⌝ }
+    ensures { λ _. ⌜ now (state .exit) ≡ stored (2 * n) (step odd (local4 (2 * mode) q) (stateAt (2 * n) (now (state .entry)))) (now (state .entry)) ⌝ }
 {
+    let dim = 2 * n;
+    let s = 2 * mode;
     settle4(state, dim, s);
     rows4(state, dim, s, q);
-    columns4(state, dim, s, q);
+    columns4(state, n, mode, q);
     if det4(q) < 0.0 {
         turn_from(state, dim, s + 4);
     }

@@ -22,7 +22,7 @@ pub fn apply_operation(n: usize, state: &mut [f64], o: Operation)
 {
     match o {
         Operation::One { mode, q } => apply_local2(state, n, mode, q),
-        Operation::Two { mode, q } => apply_local4(state, 2 * n, 2 * mode, q),
+        Operation::Two { mode, q } => apply_local4(state, n, mode, q),
         Operation::Interaction {
             mode: _,
             block: _,

@@ -1,12 +1,11 @@
--- `local::columns::columns4` meets its contract: a turn makes a row, by the part that is lent. Assumes nothing.
-use mathlib.Core.Path.{refl}
+-- `local::columns::columns4` meets its contract: a turn makes two rows. Assumes nothing.
+use mathlib.Core.Path.{_≡_, refl, ap, _∙_}
 use Prim.Native.Nat.{_+_, _*_, _-_, _≤_}
 use native.Mathlib.Omega.{arith}
 use borrow.Author.Needs.{needs}
-use lib.ListN.{length}
 use Rattle.laws.specs.Loops.{byRow}
-use Rattle.laws.proofs.Slices.{part-length, part-back}
-use Rattle.laws.proofs.Matrix.{band-in}
+use Rattle.laws.specs.Maps.{rowTurn}
+use Rattle.laws.proofs.Matrix.{place-in}
 use Rattle.laws.proofs.Loops.{none, made}
 use Rattle.laws.proofs.Maps.{ColsTo, cols-more}
 use Rattle.real.specs.Maps.{local4}
@@ -14,50 +13,63 @@ use Rattle.local.proofs.columns.columns4.Statement.{statement}
 use Rattle.local.proofs.columns.columns4.Tie as tie
 
 abbrev Inv-loop : tie.InvT-loop
-Inv-loop m₀ dim s q r₀ m r = (r ≤ dim) × ColsTo (local4 s q) dim m₀ r m
+Inv-loop m₀ n mode q dim s t₀ m t = (t ≤ n) × ColsTo (local4 (2 * mode) q) (2 * n) m₀ (2 * t) m
 
 abbrev μ-loop : tie.MeasureT-loop
-μ-loop m₀ dim s q r₀ m r = dim - r
+μ-loop m₀ n mode q dim s t₀ m t = n - t
 
-within : (c : tie.In-loop Inv-loop μ-loop)
-    → c .before .loop .r * c .before .before .before .args .dim + c .before .before .before .args .s + 4 ≤ length (c .before .loop .m)
-within c =
-    let e = c .before .before .before in
-    omega (arith, band-in (e .pre) (c .before .loop .r) (c .loop-test .taken), c .before .loop .inv .1 .long)
+-- a matrix has at least as many places as columns
+mul-dim : tie.Need-mul-dim Inv-loop μ-loop
+mul-dim c =
+    let e = c .before in
+    omega (arith, place-in (2 * e .args .n) 0 (2 * e .args .n - 1) (omega (arith, e .pre .band)) (omega (arith, e .pre .band)), e .pre .room)
+
+mul-s : tie.Need-mul-s Inv-loop μ-loop
+mul-s c = omega (arith, mul-dim c, c .before .pre .band)
 
 loop-holds : tie.Need-loop-holds Inv-loop μ-loop
 loop-holds c = (search needs, none _ _ _ _ _ (λ r c h g. refl))
 
-mul-a : tie.Need-mul-a Inv-loop μ-loop
-mul-a c = omega (arith, within c)
+mul-k : tie.Need-mul-k Inv-loop μ-loop
+mul-k c = omega (arith, mul-dim (c .before .before), c .loop-test .taken)
 
-add-a : tie.Need-add-a Inv-loop μ-loop
-add-a c = omega (arith, within c)
+add-map-row4 : tie.Need-add-map-row4 Inv-loop μ-loop
+add-map-row4 c =
+    let t = c .before .before .before .before .before in
+    omega (arith, mul-dim (t .before .before), t .loop-test .taken)
 
-add-rotate4 : tie.Need-add-rotate4 Inv-loop μ-loop
-add-rotate4 c = omega (arith, within c)
+add-t : tie.Need-add-t Inv-loop μ-loop
+add-t c =
+    let t = c .before .before .before .before .before .before .before .before in
+    omega (arith, mul-dim (t .before .before), t .loop-test .taken)
 
-mul-rotate4 : tie.Need-mul-rotate4 Inv-loop μ-loop
-mul-rotate4 c = omega (arith, within c)
-
-rotate4-requires : tie.Need-rotate4-requires Inv-loop μ-loop
-rotate4-requires c κs = part-length _ 4 (c .before .before .loop .m) (within (c .before))
+loop-less : tie.Need-loop-less Inv-loop μ-loop
+loop-less c = omega (arith, c .before .before .before .before .before .before .before .before .loop-test .taken)
 
 loop-again : tie.Need-loop-again Inv-loop μ-loop
 loop-again c =
-    let l = c .before .before .before .before .before .loop in
-    let e = c .before .before .before .before .before .before .before in (
-      omega arith,
-      cols-more (local4 (e .args .s) (e .args .q)) (e .args .dim) (l .r) (e .args .m .now) (l .m) _
-          (c .before .before .before .before .loop-test .taken)
-          (e .pre .band) (e .pre .room) (l .inv .1) (part-back _ 4 (l .m) _ _ (c .before .before .rotate4 .ensures)),
+    let c₁ = c .before .before .before .before in
+    let t = c₁ .before .before .before .before in
+    let l = t .before .loop in
+    let e = t .before .before .before in
+    let o = local4 (2 * e .args .mode) (e .args .q) in
+    let dim = 2 * e .args .n in
+    let k = 2 * l .t in
+    let first =
+        cols-more o dim k (e .args .m .now) (l .m) _ (omega (arith, t .loop-test .taken)) (e .pre .band) (e .pre .room) (l .inv .1)
+        (c₁ .before .before .map-row4 .ensures) in
+    let two : 2 * (l .t + 1) ≡ k + 1 + 1 = omega arith in (
+      omega (arith, t .loop-test .taken),
+      rw two
+          (cols-more o dim (k + 1) (e .args .m .now) _ _ (omega (arith, t .loop-test .taken)) (e .pre .band) (e .pre .room) first
+          (c .before .before .map-row42 .ensures)),
     )
 
 same-length : tie.Need-same-length Inv-loop μ-loop
 same-length c = c .before .loop .inv .1 .long
 
 returns : tie.Need-returns Inv-loop μ-loop
-returns c = made byRow _ _ _ _ _ _ (λ r c′ h g. omega arith) (c .before .loop .inv .1)
+returns c = made byRow _ _ _ _ _ _ (λ r c′ h g. omega (arith, c .loop-test .left)) (c .before .loop .inv .1)
 
 pub columns4-spec : {M : Type 1} → statement M
 columns4-spec =
@@ -65,17 +77,15 @@ columns4-spec =
     (tie.spec
     Inv-loop
     μ-loop
+    mul-dim
+    mul-s
     loop-holds
-    mul-a
-    add-a
-    add-rotate4
-    mul-rotate4
-    (λ c. search needs)
-    (λ c. search needs)
-    within
-    rotate4-requires
-    (λ c. omega arith)
-    (λ c. omega arith)
+    mul-k
+    (λ c κs. search needs)
+    add-map-row4
+    (λ c κs. search needs)
+    add-t
+    loop-less
     loop-again
     same-length
     returns)

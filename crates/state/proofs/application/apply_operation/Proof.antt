@@ -14,12 +14,6 @@ apply-local2-requires c κs =
     let e = o .before .before .before in
     record { room = e .pre .0 .room; band = omega (arith, fits-one (e .args .n) (e .args .o) _ _ (o .o .given .1) (e .pre .1)) }
 
-mul-apply-local4-2 : tie.Need-mul-apply-local4-2
-mul-apply-local4-2 c =
-    let o = c .before .before in
-    let e = o .before .before .before in
-    omega (arith, fits-two (e .args .n) (e .args .o) _ _ (o .o2 .given .1) (e .pre .1), e .pre .0 .room)
-
 apply-local4-requires : tie.Need-apply-local4-requires
 apply-local4-requires c κs =
     let o = c .before .before in
@@ -47,8 +41,6 @@ apply-operation-spec =
     (λ c. search needs)
     apply-local2-requires
     (λ c. search needs)
-    (λ c. search needs)
-    mul-apply-local4-2
     apply-local4-requires
     (λ c. search needs)
     (λ c. search needs)
