@@ -69,6 +69,10 @@ pub fn pieces(rng: &mut Rng, each: Each) {
         both.index(&format!("basis index, n = {n}"), each);
         both.shot(rng, &format!("shot, n = {n}"), each);
     }
+    for n in SIZES {
+        let name = format!("apply 2-wide, natural order, n = {n}");
+        Both::new(rng, n).in_natural_order().applies(rng, &name, Kind::One, each);
+    }
 }
 
 /// A mixed state on both sides.
@@ -81,6 +85,15 @@ pub struct Both {
 impl Both {
     pub fn new(rng: &mut Rng, n: usize) -> Both {
         let original = mixed(rng, n);
+        let port = Slice::of(n, &original);
+        Both { n, original, port }
+    }
+
+    /// The same with qubit q on mode q, as for a circuit of neighbours.
+    fn in_natural_order(self) -> Both {
+        let Both { n, original, .. } = self;
+        let (m, d) = (access::m(&original).to_vec(), access::d(&original).to_vec());
+        let original = access::state(n, m, d, (0..n).collect());
         let port = Slice::of(n, &original);
         Both { n, original, port }
     }

@@ -23,7 +23,7 @@ pub fn evolve(n: usize, count: usize, ops: &[f64], state: &mut [f64])
     let mut i = 0;
     while i < count {
         let a = OP_PLACES * i;
-        apply_places(n, state, &ops[a..a + OP_PLACES]);
+        apply_places(n, state, ops[a], ops[a + 1], &ops[a..a + OP_PLACES]);
         i += 1;
     }
 }

@@ -1,7 +1,7 @@
 -- Laws of operations: a decoded one has its modes below n; what was written as a mode is read back. Assumes nothing.
 use mathlib.Core.Path.{_≡_, refl, sym, subst}
 use mathlib.Core.Logic.{⊎-elim}
-use mathlib.Core.Bool.{Bool, true, false, cond, _&&_}
+use mathlib.Core.Bool.{Bool, true, false, cond, _&&_, false≢true}
 use mathlib.Core.List.{List}
 use Prim.Native.Nat.{ℕ, zero, suc, _+_, _-_, _≤_, _<_}
 use native.Mathlib.Nat.{le-of-suc-le-suc, not-suc-le-zero, eq-or-lt-of-le}
@@ -11,15 +11,20 @@ use lib.IntN.{pos}
 use lib.ListN.{length}
 use lib.Ieee.{Float, binary64, ofBits, ofInt, toUnsigned, neg, lt, eq}
 use borrow.Author.Tests.{ltb-true, lt-ltb}
+use Rattle.laws.specs.Zeros.{+0}
 use Rattle.laws.specs.Tests.{allBelow}
 use Rattle.laws.specs.Bounds.{maxQubits, opPlaces}
 use Rattle.real.specs.declared.maps.Map2.{Map2}
 use Rattle.real.specs.declared.maps.Map4.{Map4}
 use Rattle.state.specs.Operation.{isWhole, modeOf, placeOf, map2Of, map4Of, interactionAt, kindIs, oneOf, twoOf, decodeOf, Fits}
+use Rattle.state.specs.Answers.{accepted, refused}
+use Rattle.state.specs.Calls.{decodedAnswer}
+use Rattle.state.specs.Parts.{isGood}
 use Rattle.state.specs.declared.operation.Operation.{Operation}
 use Rattle.state.specs.declared.operation.Operation.the-variants.{One, Two}
 use Rattle.state.specs.declared.operation.Mode.{Mode}
 use Rattle.state.specs.declared.operation.Mode.the-variants.{At, Nowhere}
+use Rattle.state.specs.declared.operation.Decoded.{Decoded}
 use Rattle.state.specs.declared.operation.Decoded.the-variants.{Good, Bad}
 
 -- ---- modes below n
@@ -77,6 +82,18 @@ decode-fits n s o e =
         two-fits n s o (modeOf (placeOf s 1) (n - 1)) (λ k g. omega (arith, mode-below (placeOf s 1) (n - 1) k g)) e
     by false false false z h true e = any-fits n s o e
     by false false false z h false e = absurd (bad o e)
+
+-- ---- what the call answers, by whether there is an operation
+
+pub taken : (d : Decoded) → true ≡ isGood d → decodedAnswer d ≡ accepted +0
+unfolding isGood decodedAnswer
+taken (Good o) e = refl
+taken Bad e = absurd (false≢true (sym e))
+
+pub not-taken : (d : Decoded) → false ≡ isGood d → decodedAnswer d ≡ refused 17 0
+unfolding isGood decodedAnswer
+not-taken (Good o) e = absurd (false≢true e)
+not-taken Bad e = refl
 
 -- ---- a mode that was written as a float is read back: at each number below 128, by one test that antt computes
 

@@ -3,12 +3,13 @@
 ghost use mathlib.Core.Path.{_≡_};
 ghost use Rattle.state.specs.Operation.{decodeOf, applied, Fits};
 ghost use Rattle.state.specs.Answers.{done};
-ghost use Rattle.state.specs.Calls.{decodedAnswer, decodedState, applyAnswer, applyState};
-ghost use Rattle.state.specs.Parts.{HasState};
+ghost use Rattle.state.specs.Calls.{decodedState, applyAnswer, applyState};
+ghost use Rattle.state.specs.Parts.{HasState, HasHead, isGood};
 use super::answer::Applied;
 use super::answer::Refusal;
 use super::check::state_ok;
 use super::operation::Decoded;
+use super::operation::OP_PLACES;
 use super::operation::Operation;
 use super::operation::decode;
 use local::apply_local2;
@@ -32,19 +33,21 @@ pub fn apply_operation(n: usize, state: &mut [f64], o: Operation)
     }
 }
 
-// From its places, to a state of n qubits: question 17.
-pub fn apply_places(n: usize, state: &mut [f64], op: &[f64]) -> Applied
+// From its places, to a state of n qubits; whether there is one (question 17). The caller hands over the first two, `kind`
+// and `at`, and so in registers: the mode is needed before anything else, and out of the slice it would come later.
+pub fn apply_places(n: usize, state: &mut [f64], kind: f64, at: f64, op: &[f64]) -> bool
     requires { ⌜ HasState (now state) n ⌝ }
-    ensures answer { λ r. ⌜ done r ≡ decodedAnswer (decodeOf n (now (op .entry))) ⌝ }
+    requires { ⌜ HasHead (now op) kind at ⌝ }
+    ensures answer { λ r. ⌜ r ≡ isGood (decodeOf n (now (op .entry))) ⌝ }
     ensures state { λ _. ⌜ now (state .exit) ≡ decodedState n (now (state .entry)) (decodeOf n (now (op .entry))) ⌝ }
 {
-    let d = decode(n, op);
+    let d = decode(n, kind, at, op);
     match d {
         Decoded::Good(o) => {
             apply_operation(n, state, o);
-            Applied::Done
+            true
         }
-        Decoded::Bad => Applied::Refused(Refusal::BadOperation),
+        Decoded::Bad => false,
     }
 }
 
@@ -55,7 +58,12 @@ pub fn apply(n: usize, state: &mut [f64], modes: &[u16], op: &[f64]) -> Applied
     ensures state { λ _. ⌜ now (state .exit) ≡ applyState n (now (state .entry)) (now (modes .entry)) (now (op .entry)) ⌝ }
 {
     if state_ok(n, state, modes) {
-        return apply_places(n, state, op);
+        if op.len() >= OP_PLACES {
+            if apply_places(n, state, op[0], op[1], op) {
+                return Applied::Done;
+            }
+        }
+        return Applied::Refused(Refusal::BadOperation);
     }
     Applied::Refused(Refusal::BadState)
 }

@@ -5,12 +5,13 @@ ghost use Prim.Native.Nat.{_+_, _≤_};
 ghost use lib.ListN.{length};
 ghost use Rattle.laws.specs.Bounds.{opPlaces};
 ghost use Rattle.state.specs.Operation.{modeOf, real2Of, real4Of, map2Of, map4Of, interactionAt, decodeOf};
+ghost use Rattle.state.specs.Parts.{HasHead};
 use real::Map2;
 use real::Map4;
 use real::Real2;
 use real::Real4;
 
-const OP_PLACES: usize = 18; // places of an operation
+pub const OP_PLACES: usize = 18; // places of an operation
 
 // The unit of an interaction's phase.
 pub struct Unit {
@@ -118,16 +119,14 @@ fn interaction_at(s: &[f64]) -> Operation
     }
 }
 
-// The operation on n modes in the first places of s. An interaction's mode is not questioned.
-pub fn decode(n: usize, s: &[f64]) -> Decoded
+// The operation on n modes in the first places of s, of which `kind` and `at` are the first two. An interaction's
+// mode is not questioned.
+pub fn decode(n: usize, kind: f64, at: f64, s: &[f64]) -> Decoded
+    requires { ⌜ HasHead (now s) kind at ⌝ }
     ensures { λ r. ⌜ r ≡ decodeOf n (now (s .entry)) ⌝ }
 {
-    if s.len() < OP_PLACES {
-        return Decoded::Bad;
-    }
-    let kind = s[0];
     if kind == 1.0 {
-        let found = mode_of(s[1], n);
+        let found = mode_of(at, n);
         return match found {
             Mode::At(mode) => Decoded::Good(Operation::One {
                 mode,
@@ -140,7 +139,7 @@ pub fn decode(n: usize, s: &[f64]) -> Decoded
         if n == 0 {
             return Decoded::Bad;
         }
-        let found = mode_of(s[1], n - 1);
+        let found = mode_of(at, n - 1);
         return match found {
             Mode::At(mode) => Decoded::Good(Operation::Two {
                 mode,

@@ -1,11 +1,14 @@
 -- `evolve::evolve` meets its contract: the invariant says that the slice holds what the operations passed make of the vacuum. Assumes nothing.
-use mathlib.Core.Path.{_≡_, ap, _∙_}
-use Prim.Native.Nat.{_*_, _-_, _≤_}
-use native.Mathlib.Nat.{add-sub-cancel-left}
+use mathlib.Core.Path.{_≡_, refl, sym, ap, _∙_}
+use mathlib.Core.List.{List}
+use Prim.Native.Nat.{ℕ, _+_, _*_, _-_, _≤_, _<_}
+use native.Mathlib.Nat.{add-zero, add-sub-cancel-left, le-of-eq}
 use native.Mathlib.Numerals.{add-one}
 use native.Mathlib.Omega.{arith}
 use borrow.Author.Needs.{needs}
-use lib.ListN.{length, take, drop}
+use lib.ListN.{length, getD, take, drop}
+use lib.Ieee.{Float, nan}
+use Rattle.laws.proofs.Slices.{part-at, part-length}
 use Rattle.local.specs.Bounds.{statePlaces}
 use Rattle.local.specs.State.{stored, vacuum}
 use Rattle.state.specs.Bounds.{dimOf}
@@ -35,15 +38,28 @@ loop-holds c =
       stored-again (dimOf (a .n)) vacuum (a .state .now) (v .last .1 .0) (s .pre .0 .room) (v .ensures),
     )
 
+-- a place of an operation's part is one of the program
+head : (p : ℕ) (ops : List Float) (j : ℕ) → j < 18 → (i : ℕ) → i ≡ p + j → getD ops i nan ≡ getD (take (p + 18 - p) (drop p ops)) j nan
+head p ops j h i e = rw (add-sub-cancel-left p 18, part-at p 18 ops nan j h, e)
+
 apply-places-requires : tie.Need-apply-places-requires Inv-loop μ-loop
 apply-places-requires c κs =
-    let l = c .before .before .before .loop in
-    let n = c .before .before .before .before .before .before .before .before .before .before .args .n in
-    record { room = omega (arith, stored-long (dimOf n) _ _ (l .state) (l .inv .1) (l .inv .2), l .inv .1) }
+    let k = c .before .before .before .before .before in
+    let l = k .loop in
+    let s = k .before .before .before .before .before .before .before in
+    let p = 18 * l .i in
+    let fit : p + 18 ≤ length (s .args .ops .now) = omega (arith, c .before .before .before .before .loop-test .taken, s .pre .1) in (
+      record { room = omega (arith, stored-long (dimOf (s .args .n)) _ _ (l .state) (l .inv .1) (l .inv .2), l .inv .1) },
+      record {
+        room = le-of-eq (sym (part-length p 18 (s .args .ops .now) fit));
+        first = head p (s .args .ops .now) 0 (omega arith) p (sym (add-zero p));
+        second = head p (s .args .ops .now) 1 (omega arith) (p + 1) refl;
+      },
+    )
 
 loop-again : tie.Need-loop-again Inv-loop μ-loop
 loop-again c =
-    let k = c .before .before .before .before .before .before in
+    let k = c .before .before .before .before .before .before .before .before in
     let l = k .loop in
     let a = k .before .before .before .before .before .before .before .args in
     let s₀ = k .before .before .before .vacuum .last .1 .0 in
@@ -80,6 +96,11 @@ evolve-spec =
     μ-loop
     (λ c κs. c .before .before .before .pre .0)
     loop-holds
+    (λ c. search needs)
+    (λ c. search needs)
+    (λ c. search needs)
+    (λ c. search needs)
+    (λ c. search needs)
     (λ c. search needs)
     (λ c. search needs)
     (λ c. search needs)

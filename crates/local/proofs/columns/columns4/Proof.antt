@@ -56,8 +56,8 @@ loop-again c =
     let dim = 2 * e .args .n in
     let k = 2 * l .t in
     let first =
-        cols-more o dim k (e .args .m .now) (l .m) _ (omega (arith, t .loop-test .taken)) (e .pre .band) (e .pre .room) (l .inv .1)
-        (c₁ .before .before .map-row4 .ensures) in
+    cols-more o dim k (e .args .m .now) (l .m) _ (omega (arith, t .loop-test .taken)) (e .pre .band) (e .pre .room) (l .inv .1)
+    (c₁ .before .before .map-row4 .ensures) in
     let two : 2 * (l .t + 1) ≡ k + 1 + 1 = omega arith in (
       omega (arith, t .loop-test .taken),
       rw two
