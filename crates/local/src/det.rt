@@ -24,6 +24,9 @@ fn not_below(x: f64, y: f64) -> bool
     if num::is_nan(x) {
         return true;
     }
+    if num::is_nan(y) {
+        return false; // so that `abs` need not look for one
+    }
     num::abs(y) <= num::abs(x)
 }
 
