@@ -1,10 +1,9 @@
 -- `local::columns::columns4` meets its contract: a turn makes two rows. Assumes nothing.
-use mathlib.Core.Path.{_≡_, refl, ap, _∙_}
+use mathlib.Core.Path.{_≡_, refl}
 use Prim.Native.Nat.{_+_, _*_, _-_, _≤_}
 use native.Mathlib.Omega.{arith}
 use borrow.Author.Needs.{needs}
 use Rattle.laws.specs.Loops.{byRow}
-use Rattle.laws.specs.Maps.{rowTurn}
 use Rattle.laws.proofs.Matrix.{place-in}
 use Rattle.laws.proofs.Loops.{none, made}
 use Rattle.laws.proofs.Maps.{ColsTo, cols-more}
