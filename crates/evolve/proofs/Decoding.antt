@@ -14,7 +14,7 @@ use Rattle.detect.specs.Operation.{one, two, interaction, placesOf}
 use Rattle.state.specs.Operation.{interactionAt, oneOf, twoOf, decodeOf}
 use Rattle.state.specs.declared.operation.Operation.the-variants.{One, Two}
 use Rattle.state.specs.declared.operation.Decoded.the-variants.{Good}
-use Rattle.state.proofs.Operations.{mode-back}
+use Rattle.state.proofs.Wholes.{mode-back}
 
 -- "kind 1"
 pub decode-one : (n k : ℕ) (q : Map2) → k < n → n ≤ maxQubits → decodeOf n (placesOf (one k q)) ≡ Good (One k q)

@@ -1,5 +1,6 @@
 -- Laws on the definitions of `state`. Assumes nothing.
 pub mod Steps
+pub mod Wholes
 pub mod Operations
 pub mod Permutations
 pub mod Inverse

@@ -1,19 +1,15 @@
 -- Laws of operations: a decoded one has its modes below n; what was written as a mode is read back. Assumes nothing.
-use mathlib.Core.Path.{_≡_, refl, sym, subst}
-use mathlib.Core.Logic.{⊎-elim}
-use mathlib.Core.Bool.{Bool, true, false, cond, _&&_, false≢true}
+use mathlib.Core.Path.{_≡_, refl, sym}
+use mathlib.Core.Bool.{Bool, true, false, cond, false≢true}
 use mathlib.Core.List.{List}
-use Prim.Native.Nat.{ℕ, zero, suc, _+_, _-_, _≤_, _<_}
-use native.Mathlib.Nat.{le-of-suc-le-suc, not-suc-le-zero, eq-or-lt-of-le}
+use Prim.Native.Nat.{ℕ, _+_, _-_, _<_}
 use native.Mathlib.Omega.{arith}
-use lib.Dec.{T, eqb, ltb, eqb→eq}
-use lib.IntN.{pos}
+use lib.Dec.{eqb, ltb}
 use lib.ListN.{length}
-use lib.Ieee.{Float, binary64, ofBits, ofInt, toUnsigned, neg, lt, eq}
-use borrow.Author.Tests.{ltb-true, lt-ltb}
+use lib.Ieee.{Float, toUnsigned}
+use borrow.Author.Tests.{ltb-true}
 use Rattle.laws.specs.Zeros.{+0}
-use Rattle.laws.specs.Tests.{allBelow}
-use Rattle.laws.specs.Bounds.{maxQubits, opPlaces}
+use Rattle.laws.specs.Bounds.{opPlaces}
 use Rattle.real.specs.declared.maps.Map2.{Map2}
 use Rattle.real.specs.declared.maps.Map4.{Map4}
 use Rattle.state.specs.Operation.{isWhole, modeOf, placeOf, map2Of, map4Of, interactionAt, kindIs, oneOf, twoOf, decodeOf, Fits}
@@ -94,42 +90,3 @@ pub not-taken : (d : Decoded) → false ≡ isGood d → decodedAnswer d ≡ ref
 unfolding isGood decodedAnswer
 not-taken (Good o) e = absurd (false≢true e)
 not-taken Bad e = refl
-
--- ---- a mode that was written as a float is read back: at each number below 128, by one test that antt computes
-
-left : (a b : Bool) → T (a && b) → T a
-left true b t = tt
-left false b t = t
-
-right : (a b : Bool) → T (a && b) → T b
-right true b t = t
-right false b t = absurd t
-
-is-true : (b : Bool) → T b → b ≡ true
-is-true true t = refl
-is-true false t = absurd t
-
--- what a test of each number below n says of k
-each : (f : ℕ → Bool) (n k : ℕ) → T (allBelow f n) → k < n → T (f k)
-unfolding allBelow
-each f zero k t h = absurd (not-suc-le-zero h)
-each f (suc n) k t h =
-    ⊎-elim (λ (q : k ≡ n). subst (λ (m : ℕ). T (f m)) (sym q) (right (allBelow f n) (f n) t)) (λ (q : k < n). each f n k (left (allBelow f n)
-    (f n) t) q)
-    (eq-or-lt-of-le (le-of-suc-le-suc h))
-
-good : ℕ → Bool
-good k = isWhole (ofInt binary64 (pos k)) && eqb (toUnsigned 64 (ofInt binary64 (pos k))) k
-
-all-good : T (allBelow good maxQubits)
-unfolding allBelow good isWhole ofInt ofBits neg lt eq toUnsigned
-all-good = tt
-
-pub mode-back : (k n : ℕ) → k < n → n ≤ maxQubits → modeOf (ofInt binary64 (pos k)) n ≡ At k
-unfolding modeOf good
-mode-back k n h m =
-    let x = ofInt binary64 (pos k) in
-    let g = each good maxQubits k all-good (omega arith) in
-    let w : isWhole x ≡ true = is-true (isWhole x) (left (isWhole x) (eqb (toUnsigned 64 x) k) g) in
-    let e : toUnsigned 64 x ≡ k = eqb→eq (toUnsigned 64 x) k (right (isWhole x) (eqb (toUnsigned 64 x) k) g) in
-    rw (w, e, lt-ltb k n h)

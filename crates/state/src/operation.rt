@@ -1,7 +1,7 @@
 // Operations, 001's `GaussOp`, and how they are read from their 18 places.
 
 ghost use mathlib.Core.Path.{_≡_};
-ghost use Prim.Native.Nat.{_+_, _≤_};
+ghost use Prim.Native.Nat.{_+_, _^_, _≤_, _<_};
 ghost use lib.ListN.{length};
 ghost use Rattle.laws.specs.Bounds.{opPlaces};
 ghost use Rattle.state.specs.Operation.{modeOf, real2Of, real4Of, map2Of, map4Of, interactionAt, decodeOf};
@@ -46,8 +46,17 @@ pub enum Mode {
     Nowhere,
 }
 
-// The whole number from 0 and below n that x is.
-pub fn mode_of(x: f64, n: usize) -> Mode
+const TWO_52: f64 = 4503599627370496.0; // up to twice that the digits of an f64 are those of a whole number
+
+// x, if it is a whole number from 0 and below 2^52: the last digits of the sum. Of other numbers nothing is said.
+fn near(x: f64) -> usize
+    ensures { λ r. ⌜ r < 2 ^ 52 ⌝ }
+{
+    (num::to_bits(x + TWO_52) % 4503599627370496) as usize
+}
+
+// The whole number from 0 and below n that x is, found by cutting off its fraction.
+fn mode_by_cut(x: f64, n: usize) -> Mode
     ensures { λ r. ⌜ r ≡ modeOf x n ⌝ }
 {
     if x > -1.0 {
@@ -62,6 +71,19 @@ pub fn mode_of(x: f64, n: usize) -> Mode
         }
     }
     Mode::Nowhere
+}
+
+// The whole number from 0 and below n that x is. Everything after waits for it, so a quick guess is tested first.
+pub fn mode_of(x: f64, n: usize) -> Mode
+    ensures { λ r. ⌜ r ≡ modeOf x n ⌝ }
+{
+    let i = near(x);
+    if i < n {
+        if (i as f64) == x {
+            return Mode::At(i);
+        }
+    }
+    mode_by_cut(x, n)
 }
 
 fn real2_at(s: &[f64], at: usize) -> Real2

@@ -1,67 +1,31 @@
--- `state::operation::mode_of` meets its contract, by its tests. Assumes nothing.
-use mathlib.Core.Path.{sym, subst}
-use lib.Dec.{T}
-use lib.Ieee.{ofBits, neg}
-use borrow.Author.Tests.{lt-ltb, le-ltb}
-use Rattle.state.specs.Operation.{isWhole, modeOf}
+-- `state::operation::mode_of` meets its contract: by the guess where it is the number, else by cutting. Assumes nothing.
+use mathlib.Core.Path.{sym}
+use Prim.Native.Nat.{_^_}
+use native.Mathlib.Omega.{arith}
+use lib.Dec.{le→leb}
+use lib.Ieee.{inFloat}
+use borrow.Author.Needs.{needs}
+use Rattle.state.proofs.Wholes.{mode-is}
 use Rattle.state.proofs.operation.mode_of.Statement.{statement}
 use Rattle.state.proofs.operation.mode_of.Tie as tie
 
-truncating-f64-to-u64-requires : tie.Need-truncating-f64-to-u64-requires
-unfolding ofBits neg
-truncating-f64-to-u64-requires c κs = (subst T (sym (c .before .if1 .taken)) tt, subst T (sym (c .if2 .taken)) tt)
+int-to-float-if2 : tie.Need-int-to-float-if2
+unfolding inFloat
+int-to-float-if2 c =
+    let near = c .before .before .near in
+    le→leb (near .result) (2 ^ 53) (omega (arith, near .ensures))
 
--- the number is x, and below n
 returns : tie.Need-returns
-unfolding isWhole modeOf
 returns c =
-    let e = c .before in
-    let b = e .before .before .before in
-    rw (
-      b .before .if1 .taken,
-      b .if2 .taken,
-      ← e .before .before .truncating-f64-to-u64 .ensures,
-      ← e .before .nearest-u64-to-f64 .ensures,
-      e .if3 .taken,
-      lt-ltb _ _ (c .if4 .taken),
-    )
-
-returns-2 : tie.Need-returns-2
-unfolding isWhole modeOf
-returns-2 c =
-    let e = c .before in
-    let b = e .before .before .before in
-    rw (
-      b .before .if1 .taken,
-      b .if2 .taken,
-      ← e .before .before .truncating-f64-to-u64 .ensures,
-      ← e .before .nearest-u64-to-f64 .ensures,
-      e .if3 .taken,
-      le-ltb _ _ (c .if4 .left),
-    )
-
-returns-3 : tie.Need-returns-3
-unfolding isWhole modeOf
-returns-3 c =
-    let b = c .before .before .before in
-    rw (b .before .if1 .taken, b .if2 .taken, ← c .before .before .truncating-f64-to-u64 .ensures, ← c .before .nearest-u64-to-f64 .ensures, c .if3 .left)
-
-returns-4 : tie.Need-returns-4
-unfolding isWhole modeOf
-returns-4 c = rw (c .before .if1 .taken, c .if2 .left)
-
-returns-5 : tie.Need-returns-5
-unfolding isWhole modeOf
-returns-5 c = rw (c .if1 .left)
+    let near = c .before .before .before .near in
+    sym (mode-is _ (near .result) _ (omega (arith, near .ensures)) (c .before .before .if1 .taken) (c .if2 .taken))
 
 pub mode-of-spec : {M : Type 1} → statement M
 mode-of-spec =
     tie.close
     (tie.spec
-    truncating-f64-to-u64-requires
-    (λ c κs. tt)
+    (λ c κs. search needs)
+    int-to-float-if2
     returns
-    returns-2
-    returns-3
-    returns-4
-    returns-5)
+    (λ c κs. search needs)
+    (λ c. search needs))
