@@ -15,8 +15,9 @@ use Rattle.laws.specs.Maps.{Local, inside, rows, cols, columnTurn, rowTu
 use Rattle.laws.specs.Loops.{upTo, byPairs}
 use Rattle.laws.proofs.Cases.{lt-or-le, eq-or-ne}
 use Rattle.laws.proofs.Loops.{up-left, more}
+use Rattle.laws.proofs.Columns.{column-long, column-after, column-other}
 use Rattle.laws.proofs.Maps.{inside-yes, inside-below, inside-above, rows-out, cols-out, rows-own, cols-own}
-use Rattle.laws.proofs.Maps.{column-long, column-after, column-other, column-own, row-long, row-after, row-other, row-own}
+use Rattle.laws.proofs.Maps.{column-own, row-long, row-after, row-other, row-own}
 
 -- an index by its half
 half-of : (c t : ℕ) → c / 2 ≡ t → (c ≡ 2 * t) ⊎ (c ≡ 2 * t + 1)
@@ -59,7 +60,7 @@ module _ (o : Local) (n t : ℕ) (m : List Float) (h : t < n) (band : o .start +
 
   long₁ : length m₁ ≡ length m
   unfolding dim m₁
-  long₁ = column-long o dim (2 * t) m m a band room
+  long₁ = column-long dim _ _ (2 * t) _ m a band
 
   room₁ : dim * dim ≤ length m₁
   unfolding dim m₁
@@ -67,7 +68,7 @@ module _ (o : Local) (n t : ℕ) (m : List Float) (h : t < n) (band : o .start +
 
   long₂ : length m₂ ≡ length m
   unfolding dim m₁ m₂
-  long₂ = column-long o dim (2 * t + 1) m m₁ b band room₁ ∙ long₁
+  long₂ = column-long dim _ _ (2 * t + 1) _ m₁ b band ∙ long₁
 
   room₂ : dim * dim ≤ length m₂
   unfolding dim m₁ m₂
@@ -90,8 +91,8 @@ module _ (o : Local) (n t : ℕ) (m : List Float) (h : t < n) (band : o .start +
   after₄ i g =
       row-after o dim (2 * t + 1) m m₃ b band room₃ i g
       ∙ row-after o dim (2 * t) m m₂ a band room₂ i g
-      ∙ column-after o dim (2 * t + 1) m m₁ b band room₁ i g
-      ∙ column-after o dim (2 * t) m m a band room i g
+      ∙ column-after dim _ _ (2 * t + 1) _ m₁ b band i g
+      ∙ column-after dim _ _ (2 * t) _ m a band i g
 
   -- the turn's own columns, and the others
   column-pair : (r c : ℕ) → r < dim → c < dim → c / 2 ≡ t → at dim m₂ r c ≡ rows o (at dim m) r c
@@ -101,18 +102,15 @@ module _ (o : Local) (n t : ℕ) (m : List Float) (h : t < n) (band : o .start +
       by : (c ≡ 2 * t) ⊎ (c ≡ 2 * t + 1) → at dim m₂ r c ≡ rows o (at dim m) r c
       by (inl e) =
           rw e
-          (column-other o dim (2 * t + 1) m m₁ b band room₁ r (2 * t) hr a (λ e. omega arith)
-          ∙ column-own o dim (2 * t) m m a band room (λ r h. refl) r hr)
+          (column-other dim _ _ (2 * t + 1) _ m₁ b band r (2 * t) a (λ e. omega arith) ∙ column-own o dim (2 * t) m m a band (λ r h. refl) room r hr)
       by (inr e) =
           rw e
-          (column-own o dim (2 * t + 1) m m₁ b band room₁
-          (λ r h. column-other o dim (2 * t) m m a band room r (2 * t + 1) h b (λ e. omega arith)) r hr)
+          (column-own o dim (2 * t + 1) m m₁ b band (λ r h. column-other dim _ _ (2 * t) _ m a band r (2 * t + 1) b (λ e. omega arith)) room₁ r hr)
 
   column-away : (r c : ℕ) → r < dim → c < dim → c / 2 ≢ t → at dim m₂ r c ≡ at dim m r c
   unfolding dim m₁ m₂
   column-away r c hr hc ne =
-      column-other o dim (2 * t + 1) m m₁ b band room₁ r c hr hc (λ e. ne (omega arith))
-      ∙ column-other o dim (2 * t) m m a band room r c hr hc (λ e. ne (omega arith))
+      column-other dim _ _ (2 * t + 1) _ m₁ b band r c hc (λ e. ne (omega arith)) ∙ column-other dim _ _ (2 * t) _ m a band r c hc (λ e. ne (omega arith))
 
   -- the turn's own rows, and the others
   row-pair : (r c : ℕ) → r < dim → c < dim → r / 2 ≡ t → at dim m₄ r c ≡ cols o (at dim m₂) r c

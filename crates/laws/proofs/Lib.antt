@@ -16,6 +16,7 @@ pub mod Fit
 pub mod DyadicFloat
 pub mod Matrix
 pub mod Loops
+pub mod Columns
 pub mod Maps
 pub mod BothSteps
 pub mod Exchange

@@ -1,18 +1,17 @@
--- Laws of a loop over the entries of a matrix, by the key that says in which turn an entry is made: the start, a turn, the end, and a turn that is one
--- store. Assumes nothing.
+-- Laws of a loop over the entries of a matrix, by the key that says in which turn an entry is made: the start, a turn,
+-- the end. Assumes nothing.
 use mathlib.Core.Path.{_≡_, refl, sym, _∙_}
 use mathlib.Core.Logic.{_⊎_, inl, inr, _≢_}
 use mathlib.Core.List.{List}
 use Prim.Native.Nat.{ℕ, _+_, _*_, _≤_, _<_, zero-le}
-use native.Mathlib.Nat.{le-of-eq}
 use native.Mathlib.Omega.{arith}
-use lib.ListN.{length, getD, set, length-set}
+use lib.ListN.{length, getD}
 use lib.Ieee.{Float, nan}
 use borrow.Author.Tests.{lt-ltb, le-ltb}
 use Rattle.laws.specs.Matrix.{Mat, at, matrix, Is}
-use Rattle.laws.specs.Loops.{upTo, byCol}
-use Rattle.laws.proofs.Cases.{lt-or-le, eq-or-ne}
-use Rattle.laws.proofs.Matrix.{is-matrix, at-set-same, at-set-other, after-set}
+use Rattle.laws.specs.Loops.{upTo}
+use Rattle.laws.proofs.Cases.{lt-or-le}
+use Rattle.laws.proofs.Matrix.{is-matrix}
 
 -- ---- turn n makes anew the entries whose key is n
 
@@ -62,30 +61,3 @@ module _ (key : ℕ → ℕ → ℕ) (new old : Mat) where
 
   pub made : (dim n : ℕ) (m₀ m : List Float) → ((r c : ℕ) → r < dim → c < dim → key r c < n) → Is dim m₀ (upTo key n new old) m → m ≡ matrix dim new m₀
   made dim n m₀ m k w = is-matrix dim m₀ new m (all dim n m₀ m k w)
-
--- ---- a turn that is one store, in row i
-
-pub entry-more : (new old : Mat) (dim i n : ℕ) (m₀ m m′ : List Float) (x : Float) → i < dim → n < dim → dim * dim ≤ length m₀
-    → ((r : ℕ) → r < dim → r ≢ i → new r n ≡ old r n) → x ≡ new i n
-    → Is dim m₀ (upTo byCol n new old) m → m′ ≡ set m (i * dim + n) x → Is dim m₀ (upTo byCol (n + 1) new old) m′
-entry-more new old dim i n m₀ m m′ x hi hn room keeps v w e = more byCol new old dim n m₀ m m′ w (rw e (length-set m (i * dim + n) x)) after other own
-  where
-    after : (j : ℕ) → dim * dim ≤ j → getD m′ j nan ≡ getD m j nan
-    after j b = rw e (after-set dim i n j m x hi hn b)
-
-    other : (r c : ℕ) → r < dim → c < dim → c ≢ n → at dim m′ r c ≡ at dim m r c
-    other r c h g ne = rw e (at-set-other dim i n r c m x hn g (λ _ k. ne k))
-
-    own : (r c : ℕ) → r < dim → c < dim → c ≡ n → at dim m′ r c ≡ new r c
-    own r c h g k = by (eq-or-ne r i)
-      where
-        by : (r ≡ i) ⊎ (r ≢ i) → at dim m′ r c ≡ new r c
-        by (inl a) = (λ t. at dim m′ (a t) (k t)) ∙ rw e (at-set-same dim i n m x hi hn (rw (w .long) room) ∙ v ∙ (λ t. new (sym a t) (sym k t)))
-        by (inr a) =
-            rw e
-            (at-set-other dim i n r c m x hn g (λ b _. a b)
-            ∙ w .each r c h g
-            ∙ up-left byCol new old n r c (le-of-eq (sym k))
-            ∙ (λ t. old r (k t))
-            ∙ sym (keeps r h a)
-            ∙ (λ t. new r (sym k t)))

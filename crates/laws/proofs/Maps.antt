@@ -1,11 +1,11 @@
 -- Laws of a local map on a matrix, over its width: what `dot`, `rows` and `cols` read; a turn of the loop that puts the rows under the map, by stores
 -- in a column; a turn of the loop that puts the columns under it, by a part of a row that is lent. Assumes nothing.
-use mathlib.Core.Path.{_≡_, refl, ap, _∙_}
+use mathlib.Core.Path.{_≡_, refl, sym, ap, _∙_}
 use mathlib.Core.Logic.{_⊎_, inl, inr, _≢_}
 use mathlib.Core.Bool.{true, false, cond}
 use mathlib.Core.List.{List}
 use Prim.Native.Nat.{ℕ, zero, suc, _+_, _*_, _-_, _≤_, _<_}
-use native.Mathlib.Nat.{mul-le-mul-right, suc-mul, le-refl, le-trans, add-assoc, add-sub-cancel-left}
+use native.Mathlib.Nat.{mul-le-mul-right, suc-mul, le-refl, add-assoc, add-sub-cancel-left}
 use native.Mathlib.Omega.{arith}
 use lib.ListN.{length, getD, take, drop}
 use lib.Ieee.{Float, nan}
@@ -17,9 +17,9 @@ use Rattle.laws.specs.Loops.{upTo, byRow, byCol}
 use Rattle.laws.proofs.Cases.{lt-or-le}
 use Rattle.laws.proofs.Views.{length-listOf, getD-listOf}
 use Rattle.laws.proofs.Slices.{part-at, length-put, put-before, put-inside, put-after}
-use Rattle.laws.proofs.Stores.{length-stores, stores-other, stores-own}
-use Rattle.laws.proofs.Matrix.{place-in, part-in, row-of, col-of, Within}
+use Rattle.laws.proofs.Matrix.{part-in, Within}
 use Rattle.laws.proofs.Loops.{up-left, more}
+use Rattle.laws.proofs.Columns.{column-is, column-more}
 
 -- ---- which indices are the map's
 
@@ -77,59 +77,24 @@ module _ (o : Local) (dim : ℕ) (band : o .start + o .width ≤ dim) where
 abbrev pub RowsTo : Local → ℕ → List Float → ℕ → List Float → Type 0
 RowsTo o dim m₀ n m = Is dim m₀ (upTo byCol n (rows o (at dim m₀)) (at dim m₀)) m
 
-module _ (o : Local) (dim c : ℕ) (m₀ m : List Float) (g : c < dim) (band : o .start + o .width ≤ dim) (room : dim * dim ≤ length m) where
-  s : ℕ
-  s = o .start
+-- column c, as it was before its turn: what is stored, and what stays
+module _ (o : Local) (dim c : ℕ) (m₀ m : List Float) (g : c < dim) (band : o .start + o .width ≤ dim) (old : (r : ℕ) → r < dim → at dim m r c ≡ at dim m₀ r c) where
+  stored : (i : ℕ) → i < o .width → under (o .width) (o .map) (λ j. at dim m (o .start + j) c) i ≡ rows o (at dim m₀) (o .start + i) c
+  stored i l = dot-cong (o .map i) _ _ (o .width) (λ j b. old (o .start + j) (omega arith)) ∙ sym (rows-in o (at dim m₀) i c l)
 
-  k : ℕ
-  k = o .width
+  kept : (r : ℕ) → (r < o .start) ⊎ (o .start + o .width ≤ r) → rows o (at dim m₀) r c ≡ at dim m₀ r c
+  kept r (inl l) = rows-out o (at dim m₀) r c (inside-below o r l)
+  kept r (inr l) = rows-out o (at dim m₀) r c (inside-above o r l)
 
-  p : ℕ → ℕ
-  p i = (s + i) * dim + c
-
-  v : ℕ → Float
-  v = under k (o .map) (λ j. at dim m (s + j) c)
-
-  pub column-long : length (columnTurn o dim c m) ≡ length m
-  unfolding s k p v
-  column-long = length-stores p v m k
-
-  pub column-after : (i : ℕ) → dim * dim ≤ i → getD (columnTurn o dim c m) i nan ≡ getD m i nan
-  unfolding s k p v
-  column-after i b = stores-other p v m k i nan (λ j l e. omega (arith, e, place-in dim (s + j) c (omega arith) g))
-
-  pub column-other : (r c′ : ℕ) → r < dim → c′ < dim → c′ ≢ c → at dim (columnTurn o dim c m) r c′ ≡ at dim m r c′
-  unfolding s k p v
-  column-other r c′ h g′ ne = stores-other p v m k (r * dim + c′) nan (λ j l e. ne (col-of dim r c′ (s + j) c g′ g e))
-
-  pub column-own : ((r : ℕ) → r < dim → at dim m r c ≡ at dim m₀ r c) → (r : ℕ) → r < dim → at dim (columnTurn o dim c m) r c ≡ rows o (at dim m₀) r c
-  unfolding s k p v
-  column-own old r h = by (lt-or-le r s) (lt-or-le r (s + k))
-    where
-      away : ((j : ℕ) → j < k → r ≢ s + j) → at dim (columnTurn o dim c m) r c ≡ at dim m₀ r c
-      away ne = stores-other p v m k (r * dim + c) nan (λ j l e. ne j l (row-of dim r c (s + j) c g g e)) ∙ old r h
-
-      by : (r < s) ⊎ (s ≤ r) → (r < s + k) ⊎ (s + k ≤ r) → at dim (columnTurn o dim c m) r c ≡ rows o (at dim m₀) r c
-      by (inl l) _ = rw (inside-below o r l) (away (λ j b e. omega arith))
-      by (inr l) (inr l′) = rw (inside-above o r l′) (away (λ j b e. omega arith))
-      by (inr l) (inl l′) =
-          let e : r ≡ s + (r - s) = omega arith in
-          let b : p (r - s) < length m = le-trans (place-in dim (s + (r - s)) c (omega arith) g) room in
-          rw (inside-yes o r l l′)
-          (ap (λ n. getD (columnTurn o dim c m) (n * dim + c) nan) e
-          ∙ stores-own p v m k (r - s) nan (omega arith) b (λ j _ e. omega (arith, row-of dim (s + (r - s)) c (s + j) c g g e))
-          ∙ dot-cong (o .map (r - s)) _ _ k (λ j b. old (s + j) (omega arith)))
+  pub column-own : dim * dim ≤ length m → (r : ℕ) → r < dim → at dim (columnTurn o dim c m) r c ≡ rows o (at dim m₀) r c
+  column-own room =
+      column-is dim (o .start) (o .width) c _ m g band (λ r. rows o (at dim m₀) r c) room (λ r h a. old r h ∙ sym (kept r a)) stored
 
 pub rows-more : (o : Local) (dim c : ℕ) (m₀ m m′ : List Float) → c < dim → o .start + o .width ≤ dim → dim * dim ≤ length m₀
     → RowsTo o dim m₀ c m → m′ ≡ columnTurn o dim c m → RowsTo o dim m₀ (c + 1) m′
 rows-more o dim c m₀ m m′ g band room w e =
-    let room′ : dim * dim ≤ length m = rw (w .long) room in
-    rw e
-    (more byCol _ _ dim c m₀ m _ w
-    (column-long o dim c m₀ m g band room′)
-    (column-after o dim c m₀ m g band room′)
-    (column-other o dim c m₀ m g band room′)
-    (λ r c′ h g′ e′. rw e′ (column-own o dim c m₀ m g band room′ (λ r h. w .each r c h g ∙ up-left byCol _ _ c r c (le-refl c)) r h)))
+    let old : (r : ℕ) → r < dim → at dim m r c ≡ at dim m₀ r c = λ r h. w .each r c h g ∙ up-left byCol _ _ c r c (le-refl c) in
+    column-more _ _ dim (o .start) (o .width) c _ m₀ m m′ band g room (λ r h a. kept o dim c m₀ m g band old r a) (stored o dim c m₀ m g band old) w e
 
 -- ---- the columns step: the first n rows are done
 

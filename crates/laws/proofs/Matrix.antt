@@ -3,7 +3,7 @@
 use mathlib.Core.Path.{_≡_, refl, sym, ap, subst, _∙_}
 use mathlib.Core.Logic.{_⊎_, inl, inr}
 use mathlib.Core.List.{List}
-use Prim.Native.Nat.{ℕ, zero, suc, _+_, _*_, _/_, _%_, _≤_, _<_, zero-le, suc-le-suc}
+use Prim.Native.Nat.{ℕ, zero, suc, _+_, _*_, _-_, _/_, _%_, _≤_, _<_, zero-le, suc-le-suc}
 use native.Mathlib.Nat.{mul-le-mul-right, suc-mul, div-lt-iff-lt-mul, div-add-mod', mod-lt, not-suc-le-zero, zero-mul, le-trans}
 use native.Mathlib.Omega.{arith}
 use lib.Arith.{digits-lt, digits-div, digits-mod}
@@ -32,6 +32,10 @@ entry-in {dim = dim} {r} {c} w = le-trans (place-in dim r c (w .row) (w .col)) (
 
 pub band-in : {m : List Float} {dim s k : ℕ} → Holds m dim s k → (r : ℕ) → r < dim → r * dim + s + k ≤ length m
 band-in {dim = dim} {s} {k} w r h = le-trans (part-in dim r s k h (w .band)) (w .room)
+
+-- a matrix has at least as many places as columns
+pub dim-in : {m : List Float} {dim s k : ℕ} → Holds m dim s k → 0 < k → dim ≤ length m
+dim-in {dim = dim} w h = omega (arith, place-in dim 0 (dim - 1) (omega (arith, w .band)) (omega (arith, w .band)), w .room)
 
 -- two places are equal only if their rows and columns are
 pub row-of : (dim r c r′ c′ : ℕ) → c < dim → c′ < dim → r * dim + c ≡ r′ * dim + c′ → r ≡ r′

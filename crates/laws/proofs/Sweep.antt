@@ -15,7 +15,8 @@ use Rattle.laws.specs.Steps.{Mask, masked, inRow}
 use Rattle.laws.specs.Loops.{upTo, byRow, byCol}
 use Rattle.laws.proofs.Cases.{lt-or-le}
 use Rattle.laws.proofs.Matrix.{matrix-is}
-use Rattle.laws.proofs.Loops.{up-done, up-left, none-from, more, made, entry-more}
+use Rattle.laws.proofs.Loops.{up-done, up-left, none-from, more, made}
+use Rattle.laws.proofs.Columns.{entry-more}
 
 -- ---- an entry of the mask, and one outside it
 

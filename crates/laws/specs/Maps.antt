@@ -7,9 +7,9 @@ use lib.Dec.{leb, ltb}
 use lib.ListN.{getD}
 use lib.Ieee.{Float, nan, binary64, add, mul}
 use Rattle.laws.specs.Views.{listOf}
-use Rattle.laws.specs.Slices.{onPart, stores}
+use Rattle.laws.specs.Slices.{onPart}
 use Rattle.laws.specs.Zeros.{+0}
-use Rattle.laws.specs.Matrix.{Mat, at}
+use Rattle.laws.specs.Matrix.{Mat, at, putColumn}
 
 -- a map of `width` indices, from `start` on: `map i j` is its entry in row i and column j
 pub record Local : Type 0 where
@@ -42,7 +42,7 @@ cols o m r c = cond (inside o c) (under (o .width) (o .map) (λ j. m r (o .start
 
 -- column c: the entries in the map's rows are read, and then stored one by one
 abbrev pub columnTurn : Local → ℕ → ℕ → List Float → List Float
-columnTurn o dim c m = stores (o .width) (λ i. (o .start + i) * dim + c) (under (o .width) (o .map) (λ j. at dim m (o .start + j) c)) m
+columnTurn o dim c m = putColumn (o .width) dim (o .start) c (under (o .width) (o .map) (λ j. at dim m (o .start + j) c)) m
 
 -- a row's part of k places, lent on, under the map q
 unfoldable pub rotated : ℕ → Mat → List Float → List Float

@@ -8,6 +8,7 @@ use lib.Dec.{ltb}
 use lib.ListN.{getD, length}
 use lib.Ieee.{Float, nan}
 use Rattle.laws.specs.Views.{listOf}
+use Rattle.laws.specs.Slices.{stores}
 
 -- the entries, by row and column
 abbrev pub Mat : Type 0
@@ -16,6 +17,10 @@ Mat = ℕ → ℕ → Float
 -- the entry in row r and column c
 abbrev pub at : ℕ → List Float → Mat
 at dim m r c = getD m (r * dim + c) nan
+
+-- k entries stored in column c, from row s on
+abbrev pub putColumn : ℕ → ℕ → ℕ → ℕ → (ℕ → Float) → List Float → List Float
+putColumn k dim s c v m = stores k (λ i. (s + i) * dim + c) v m
 
 -- the list m with its matrix made anew: f r c in row r and column c. What lies after the matrix keeps its value
 unfoldable pub matrix : ℕ → Mat → List Float → List Float

@@ -21,7 +21,8 @@ use Rattle.laws.proofs.Cases.{lt-or-le, eq-or-ne}
 use Rattle.laws.proofs.Tables.{update-here, update-away}
 use Rattle.laws.proofs.Maps.{inside-yes, inside-below, inside-above}
 use Rattle.laws.proofs.Matrix.{matrix-is, is-matrix, at-set-same, at-set-other, after-set, at-set-after}
-use Rattle.laws.proofs.Loops.{more, up-left, entry-more}
+use Rattle.laws.proofs.Loops.{more, up-left}
+use Rattle.laws.proofs.Columns.{entry-more}
 use Rattle.local.specs.Bounds.{statePlaces}
 use Rattle.local.specs.State.{State, stateAt, stored, Stored}
 use Rattle.local.specs.Apply.{unsettled, calm}

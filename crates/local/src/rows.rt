@@ -1,9 +1,8 @@
 // The rows step of 001's `apply_local` under a map of two modes, column by column.
 
 ghost use mathlib.Core.Path.{_≡_};
-ghost use Prim.Native.Nat.{_+_, _*_, _<_};
-ghost use Rattle.laws.specs.Slices.{stores};
-ghost use Rattle.laws.specs.Matrix.{at, matrix, Holds};
+ghost use Prim.Native.Nat.{_<_};
+ghost use Rattle.laws.specs.Matrix.{at, putColumn, matrix, Holds};
 ghost use Rattle.laws.specs.Maps.{rows};
 ghost use Rattle.real.specs.Maps.{row4, local4};
 ghost use Rattle.local.specs.Parts.{under4, column4Of};
@@ -40,7 +39,7 @@ fn column4(m: &[f64], dim: usize, s: usize, c: usize) -> Real4
 fn put_column4(m: &mut [f64], dim: usize, s: usize, c: usize, v: Real4)
     requires { ⌜ Holds (now m) dim s 4 ⌝ }
     requires { ⌜ c < dim ⌝ }
-    ensures { λ _. ⌜ now (m .exit) ≡ stores 4 (λ i. (s + i) * dim + c) (row4 v) (now (m .entry)) ⌝ }
+    ensures { λ _. ⌜ now (m .exit) ≡ putColumn 4 dim s c (row4 v) (now (m .entry)) ⌝ }
 {
     put(m, dim, s, c, v.x0);
     put(m, dim, s + 1, c, v.x1);

@@ -1,61 +1,31 @@
 -- Row i of a matrix made anew by the rows a and a + 1 right of the diagonal, and then row i + 1: one loop over the columns makes both, since neither
 -- reads the other. Assumes nothing.
-use mathlib.Core.Path.{_≡_, refl, sym, _∙_}
+use mathlib.Core.Path.{_≡_, refl, sym, ap, _∙_}
 use mathlib.Core.Logic.{_⊎_, inl, inr, _≢_}
 use mathlib.Core.Bool.{cond, and-false}
 use mathlib.Core.List.{List}
-use Prim.Native.Nat.{ℕ, _+_, _*_, _≤_, _<_}
-use native.Mathlib.Nat.{le-refl, le-of-eq}
+use Prim.Native.Nat.{ℕ, zero, suc, _+_, _*_, _≤_, _<_}
+use native.Mathlib.Nat.{add-zero, le-refl, le-of-eq, le-of-suc-le-suc, not-suc-le-zero}
 use native.Mathlib.Omega.{arith}
 use lib.Dec.{eqb, leb}
-use lib.ListN.{length, getD, set, length-set}
-use lib.Ieee.{Float, nan}
+use lib.ListN.{length, set}
+use lib.Ieee.{Float}
 use borrow.Author.Tests.{eq-eqb, ne-eqb, le-ltb}
 use Rattle.laws.specs.Matrix.{Mat, at, matrix, Is}
 use Rattle.laws.specs.Steps.{masked, inRow, rightFrom, Formula, byPair}
 use Rattle.laws.specs.Loops.{upTo, byRow, byCol}
 use Rattle.laws.proofs.Cases.{lt-or-le, eq-or-ne}
-use Rattle.laws.proofs.Matrix.{Within, is-matrix, matrix-then, at-set-same, at-set-other, after-set}
-use Rattle.laws.proofs.Loops.{up-done, up-left, none-from, more, made, entry-more}
+use Rattle.laws.proofs.Matrix.{Within, is-matrix, matrix-then}
+use Rattle.laws.proofs.Loops.{up-done, up-left, none-from, made}
+use Rattle.laws.proofs.Stores.{stores-first, stores-more}
+use Rattle.laws.proofs.Columns.{column-more, entry-more}
 use Rattle.laws.proofs.Sweep.{Swept, masked-on, masked-off}
 use Rattle.laws.proofs.Eliminations.{right-on}
 
--- ---- a turn that is two stores in column n, in the rows i and j
-
-entries-more : (new old : Mat) (dim i j n : ℕ) (m₀ m m′ : List Float) (x y : Float) → i < dim → j < dim → i ≢ j → n < dim → dim * dim ≤ length m₀
-    → ((r : ℕ) → r < dim → r ≢ i → r ≢ j → new r n ≡ old r n) → x ≡ new i n → y ≡ new j n
-    → Is dim m₀ (upTo byCol n new old) m → m′ ≡ set (set m (i * dim + n) x) (j * dim + n) y → Is dim m₀ (upTo byCol (n + 1) new old) m′
-entries-more new old dim i j n m₀ m m′ x y hi hj ne hn room keeps vx vy w e =
-    more byCol new old dim n m₀ m m′ w (rw e (length-set (set m (i * dim + n) x) (j * dim + n) y ∙ length-set m (i * dim + n) x)) after other own
-  where
-    after : (k : ℕ) → dim * dim ≤ k → getD m′ k nan ≡ getD m k nan
-    after k b = rw e (after-set dim j n k (set m (i * dim + n) x) y hj hn b ∙ after-set dim i n k m x hi hn b)
-
-    apart : (r c : ℕ) → c < dim → (r ≡ i → c ≡ n → ⊥) → (r ≡ j → c ≡ n → ⊥) → at dim m′ r c ≡ at dim m r c
-    apart r c g p q = rw e (at-set-other dim j n r c (set m (i * dim + n) x) y hn g q ∙ at-set-other dim i n r c m x hn g p)
-
-    other : (r c : ℕ) → r < dim → c < dim → c ≢ n → at dim m′ r c ≡ at dim m r c
-    other r c h g k = apart r c g (λ _ q. k q) (λ _ q. k q)
-
-    own : (r c : ℕ) → r < dim → c < dim → c ≡ n → at dim m′ r c ≡ new r c
-    own r c h g k = by (eq-or-ne r j) (eq-or-ne r i)
-      where
-        by : (r ≡ j) ⊎ (r ≢ j) → (r ≡ i) ⊎ (r ≢ i) → at dim m′ r c ≡ new r c
-        by (inl a) _ =
-            (λ t. at dim m′ (a t) (k t))
-            ∙ rw e (at-set-same dim j n (set m (i * dim + n) x) y hj hn (rw (length-set m (i * dim + n) x, w .long) room) ∙ vy)
-            ∙ (λ t. new (sym a t) (sym k t))
-        by (inr _) (inl b) =
-            (λ t. at dim m′ (b t) (k t))
-            ∙ rw e (at-set-other dim j n i n (set m (i * dim + n) x) y hn hn (λ q _. ne q) ∙ at-set-same dim i n m x hi hn (rw (w .long) room) ∙ vx)
-            ∙ (λ t. new (sym b t) (sym k t))
-        by (inr a) (inr b) =
-            apart r c g (λ q _. b q) (λ q _. a q)
-            ∙ w .each r c h g
-            ∙ up-left byCol new old n r c (le-of-eq (sym k))
-            ∙ (λ t. old r (k t))
-            ∙ sym (keeps r h b a)
-            ∙ (λ t. new r (sym k t))
+-- two numbers by their index
+pair : Float → Float → ℕ → Float
+pair x y zero = x
+pair x y (suc i) = y
 
 -- ---- the two rows
 
@@ -118,15 +88,32 @@ module _ (a : ℕ) (g : Formula) (dim i : ℕ) (m : List Float) where
         → x ≡ g (at dim l i n) (at dim m a i) (at dim l a n) (at dim m (a + 1) i) (at dim l (a + 1) n)
         → y ≡ g (at dim l (i + 1) n) (at dim m a (i + 1)) (at dim l a n) (at dim m (a + 1) (i + 1)) (at dim l (a + 1) n)
         → TwoRows n l → m′ ≡ set (set l (i * dim + n) x) ((i + 1) * dim + n) y → TwoRows (n + 1) m′
+    unfolding pair
     two-more n l m′ x y hn h vx vy w e =
-        let old : (r : ℕ) → r < dim → at dim l r n ≡ at dim m r n = λ r b. w .each r n b h ∙ up-left byCol _ _ n r n (le-refl n) in
-        entries-more _ _ dim i (i + 1) n m l m′ x y (omega arith) inside (λ q. omega arith) h room
-        (λ r b p q. both-other r n p q)
-        (vx ∙ (λ t. g (old i (omega arith) t) (at dim m a i) (old a (omega arith) t) (at dim m (a + 1) i) (old (a + 1) (omega arith) t)) ∙ sym (upper n (omega arith)))
-        (vy
-        ∙ (λ t. g (old (i + 1) inside t) (at dim m a (i + 1)) (old a (omega arith) t) (at dim m (a + 1) (i + 1)) (old (a + 1) (omega arith) t))
-        ∙ sym (lower n hn))
-        w e
+        let p : ℕ → ℕ = λ j. (i + j) * dim + n in
+        column-more _ _ dim i 2 n (pair x y) m l m′ (omega arith) h room (λ r b q. both-other r n (λ k. apart r q (inl k)) (λ k. apart r q (inr k))) put w
+        (stores-more p (pair x y) l 1 _ m′ (stores-first p (pair x y) l (i * dim + n) _ (rw add-zero) refl) e)
+      where
+        apart : (r : ℕ) → (r < i) ⊎ (i + 2 ≤ r) → (r ≡ i) ⊎ (r ≡ i + 1) → ⊥
+        apart r (inl k) (inl q) = omega arith
+        apart r (inl k) (inr q) = omega arith
+        apart r (inr k) (inl q) = omega arith
+        apart r (inr k) (inr q) = omega arith
+
+        old : (r : ℕ) → r < dim → at dim l r n ≡ at dim m r n
+        old r b = w .each r n b h ∙ up-left byCol _ _ n r n (le-refl n)
+
+        put : (j : ℕ) → j < 2 → pair x y j ≡ then one (i + j) n
+        put zero b =
+            vx
+            ∙ (λ t. g (old i (omega arith) t) (at dim m a i) (old a (omega arith) t) (at dim m (a + 1) i) (old (a + 1) (omega arith) t))
+            ∙ sym (upper n (omega arith))
+            ∙ ap (λ r. then one r n) (sym (add-zero i))
+        put (suc zero) b =
+            vy
+            ∙ (λ t. g (old (i + 1) inside t) (at dim m a (i + 1)) (old a (omega arith) t) (at dim m (a + 1) (i + 1)) (old (a + 1) (omega arith) t))
+            ∙ sym (lower n hn)
+        put (suc (suc j)) b = absurd (not-suc-le-zero (le-of-suc-le-suc (le-of-suc-le-suc b)))
 
     within : Within dim then
     unfolding masked

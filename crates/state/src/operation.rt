@@ -46,13 +46,15 @@ pub enum Mode {
     Nowhere,
 }
 
-const TWO_52: f64 = 4503599627370496.0; // up to twice that the digits of an f64 are those of a whole number
+const TWO_52: f64 = 4503599627370496.0; // from here up to twice as much an f64 is a whole number, by its last digits
 
-// x, if it is a whole number from 0 and below 2^52: the last digits of the sum. Of other numbers nothing is said.
+const DIGITS: u64 = 1 << 52; // a pattern modulo this is the last digits
+
+// A guess at x: the number itself if it is whole, from 0 and below 2^52. Nothing is proved of it but how large it is.
 fn near(x: f64) -> usize
     ensures { λ r. ⌜ r < 2 ^ 52 ⌝ }
 {
-    (num::to_bits(x + TWO_52) % 4503599627370496) as usize
+    (num::to_bits(x + TWO_52) % DIGITS) as usize
 }
 
 // The whole number from 0 and below n that x is, found by cutting off its fraction.

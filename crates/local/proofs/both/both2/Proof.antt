@@ -5,7 +5,7 @@ use native.Mathlib.Omega.{arith}
 use borrow.Author.Needs.{needs}
 use Rattle.laws.specs.Maps.{inside, rowTurn}
 use Rattle.laws.specs.Loops.{byPairs}
-use Rattle.laws.proofs.Matrix.{place-in}
+use Rattle.laws.proofs.Matrix.{dim-in}
 use Rattle.laws.proofs.Loops.{none, made}
 use Rattle.laws.proofs.BothSteps.{PairsTo, pairs-more, pairs-below}
 use Rattle.real.specs.Maps.{local2}
@@ -18,11 +18,8 @@ Inv-loop m₀ n mode q dim s t₀ m t = (t ≤ n) × PairsTo (local2 (2 * mode) 
 abbrev μ-loop : tie.MeasureT-loop
 μ-loop m₀ n mode q dim s t₀ m t = n - t
 
--- a matrix has at least as many places as columns
 mul-dim : tie.Need-mul-dim Inv-loop μ-loop
-mul-dim c =
-    let e = c .before in
-    omega (arith, place-in (2 * e .args .n) 0 (2 * e .args .n - 1) (omega (arith, e .pre .band)) (omega (arith, e .pre .band)), e .pre .room)
+mul-dim c = omega (arith, dim-in (c .before .pre) (omega arith))
 
 mul-s : tie.Need-mul-s Inv-loop μ-loop
 mul-s c = omega (arith, mul-dim c, c .before .pre .band)

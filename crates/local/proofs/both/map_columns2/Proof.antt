@@ -9,9 +9,10 @@ use lib.ListN.{length, set}
 use lib.Seq.{set-comm}
 use lib.Ieee.{Float}
 use Rattle.laws.specs.Slices.{stores}
+use Rattle.laws.specs.Matrix.{at, putColumn}
 use Rattle.laws.specs.Maps.{columnTurn}
 use Rattle.laws.proofs.Matrix.{row-of}
-use Rattle.laws.proofs.Maps.{column-other}
+use Rattle.laws.proofs.Columns.{column-other}
 use Rattle.real.specs.Maps.{row2, local2}
 use Rattle.real.specs.declared.maps.Map2.{Map2}
 use Rattle.real.specs.declared.maps.Real2.{Real2}
@@ -32,20 +33,18 @@ module _ (dim s c : ℕ) (q : Map2) (m : List Float) (band : s + 2 ≤ dim) (nea
   first = columnTurn (local2 s q) dim c m
 
   -- the second column is not touched by the first turn
-  kept : under2 q (column2Of dim first s (c + 1)) ≡ w
-  unfolding first w
-  kept = λ i. under2 q (record {
-    x0 = column-other (local2 s q) dim c m m (omega arith) band room s (c + 1) (omega arith) (omega arith) (λ e. omega arith) i;
-    x1 = column-other (local2 s q) dim c m m (omega arith) band room (s + 1) (c + 1) (omega arith) (omega arith) (λ e. omega arith) i;
-  })
+  other : (r : ℕ) → at dim first r (c + 1) ≡ at dim m r (c + 1)
+  unfolding first
+  other r = column-other dim s 2 c _ m (omega arith) band r (c + 1) (omega arith) (λ e. omega arith)
 
-  p : ℕ → ℕ → ℕ
-  p c i = (s + i) * dim + c
+  kept : under2 q (column2Of dim first s (c + 1)) ≡ w
+  unfolding w
+  kept = λ i. under2 q (record { x0 = other s i; x1 = other (s + 1) i })
 
   -- the two stores in the middle change places
   crossed : set (set (set (set m (s * dim + c) (v .x0)) (s * dim + (c + 1)) (w .x0)) ((s + 1) * dim + c) (v .x1)) ((s + 1) * dim + (c + 1)) (w .x1)
-      ≡ stores 2 (p (c + 1)) (row2 w) (stores 2 (p c) (row2 v) m)
-  unfolding stores p
+      ≡ putColumn 2 dim s (c + 1) (row2 w) (putColumn 2 dim s c (row2 v) m)
+  unfolding stores
   crossed =
       rw add-zero
       (ap (λ l. set l ((s + 1) * dim + (c + 1)) (w .x1))
@@ -55,14 +54,14 @@ module _ (dim s c : ℕ) (q : Map2) (m : List Float) (band : s + 2 ≤ dim) (nea
   by-rows : (x y : Real2) (m₁ m₂ : List Float) → x ≡ v → y ≡ w → m₁ ≡ set (set m (s * dim + c) (x .x0)) (s * dim + (c + 1)) (y .x0)
       → m₂ ≡ set (set m₁ ((s + 1) * dim + c) (x .x1)) ((s + 1) * dim + (c + 1)) (y .x1)
       → m₂ ≡ columnTurn (local2 s q) dim (c + 1) (columnTurn (local2 s q) dim c m)
-  unfolding p v first
+  unfolding v first
   by-rows x y m₁ m₂ ex ey e₁ e₂ =
       e₂
       ∙ (λ i. set (set (e₁ i) ((s + 1) * dim + c) (x .x1)) ((s + 1) * dim + (c + 1)) (y .x1))
       ∙ (λ i. set (set (set (set m (s * dim + c) (ex i .x0)) (s * dim + (c + 1)) (ey i .x0)) ((s + 1) * dim + c) (ex i .x1)) ((s + 1) * dim + (c + 1)) (ey i .x1))
       ∙ crossed
-      ∙ (λ i. stores 2 (p (c + 1)) (row2 w) (turn2 s dim c m q i))
-      ∙ (λ i. stores 2 (p (c + 1)) (row2 (sym kept i)) first)
+      ∙ (λ i. putColumn 2 dim s (c + 1) (row2 w) (turn2 s dim c m q i))
+      ∙ (λ i. putColumn 2 dim s (c + 1) (row2 (sym kept i)) first)
       ∙ turn2 s dim (c + 1) first q
 
 returns : tie.Need-returns

@@ -4,7 +4,7 @@ use Prim.Native.Nat.{_+_, _*_, _-_, _≤_}
 use native.Mathlib.Omega.{arith}
 use borrow.Author.Needs.{needs}
 use Rattle.laws.specs.Loops.{byRow}
-use Rattle.laws.proofs.Matrix.{place-in}
+use Rattle.laws.proofs.Matrix.{dim-in}
 use Rattle.laws.proofs.Loops.{none, made}
 use Rattle.laws.proofs.Maps.{ColsTo, cols-more}
 use Rattle.real.specs.Maps.{local4}
@@ -17,11 +17,8 @@ Inv-loop m₀ n mode q dim s t₀ m t = (t ≤ n) × ColsTo (local4 (2 * mode) q
 abbrev μ-loop : tie.MeasureT-loop
 μ-loop m₀ n mode q dim s t₀ m t = n - t
 
--- a matrix has at least as many places as columns
 mul-dim : tie.Need-mul-dim Inv-loop μ-loop
-mul-dim c =
-    let e = c .before in
-    omega (arith, place-in (2 * e .args .n) 0 (2 * e .args .n - 1) (omega (arith, e .pre .band)) (omega (arith, e .pre .band)), e .pre .room)
+mul-dim c = omega (arith, dim-in (c .before .pre) (omega arith))
 
 mul-s : tie.Need-mul-s Inv-loop μ-loop
 mul-s c = omega (arith, mul-dim c, c .before .pre .band)

@@ -1,9 +1,9 @@
 -- `local::rows::rows4` meets its contract: a turn makes a column. Assumes nothing.
 use mathlib.Core.Path.{refl, _∙_}
-use Prim.Native.Nat.{ℕ, _+_, _*_, _-_, _≤_}
+use Prim.Native.Nat.{_-_, _≤_}
 use native.Mathlib.Omega.{arith}
 use borrow.Author.Needs.{needs}
-use Rattle.laws.specs.Slices.{stores}
+use Rattle.laws.specs.Matrix.{putColumn}
 use Rattle.laws.specs.Loops.{byCol}
 use Rattle.laws.proofs.Loops.{none, made}
 use Rattle.laws.proofs.Maps.{RowsTo, rows-more}
@@ -27,13 +27,13 @@ loop-again c =
     let t = c .before .before .before .before .before .before .before in
     let l = t .before .loop in
     let e = t .before .before .before in
-    let p : ℕ → ℕ = λ i. (e .args .s + i) * e .args .dim + l .c in (
+    let put = putColumn 4 (e .args .dim) (e .args .s) (l .c) in (
       omega arith,
       rows-more (local4 (e .args .s) (e .args .q)) (e .args .dim) (l .c) (e .args .m .now) (l .m) _ (t .loop-test .taken) (e .pre .band)
           (e .pre .room) (l .inv .1)
           (c .before .before .put-column4 .ensures
-          ∙ (λ i. stores 4 p (row4 (c .before .before .before .mapped4 .ensures i)) (l .m))
-          ∙ (λ i. stores 4 p (row4 (under4 (e .args .q) (c .before .before .before .before .before .column4 .ensures i))) (l .m))
+          ∙ (λ i. put (row4 (c .before .before .before .mapped4 .ensures i)) (l .m))
+          ∙ (λ i. put (row4 (under4 (e .args .q) (c .before .before .before .before .before .column4 .ensures i))) (l .m))
           ∙ turn4 (e .args .s) (e .args .dim) (l .c) (l .m) (e .args .q)),
     )
 
