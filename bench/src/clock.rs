@@ -1,12 +1,11 @@
-//! CPU time of the calling thread: medians of alternating rounds, and the least of alternating passes.
+//! CPU time of the calling thread: the median and the least of rounds in which the sides take turns.
 
 use crate::pieces::{Pass, Piece};
 use crate::rows::Row;
 
-/// Rounds of each side.
-const ROUNDS: usize = 21;
-/// CPU time of a round at least, in nanoseconds.
-const ROUND_NS: f64 = 2e6;
+/// CPU time of a round at least, in nanoseconds: much longer than it takes to read the clock, and so short that some rounds
+/// are not disturbed.
+const ROUND_NS: f64 = 3e5;
 
 #[repr(C)]
 struct Timespec {
@@ -37,30 +36,23 @@ fn spent(pass: Pass, passes: usize) -> f64 {
     now() - start
 }
 
-/// The median time of each side, in nanoseconds; the sides take turns.
-pub fn medians(piece: Piece) -> Row {
+/// Times of a piece, in nanoseconds.
+pub struct Times {
+    pub median: Row,
+    pub least: Row,
+}
+
+/// The times of so many rounds of each side.
+pub fn times(rounds: usize, piece: Piece) -> Times {
     let Piece { name, calls, original, port } = piece;
     let slower = spent(original, 3).max(spent(port, 3)) / 3.0;
     let passes = (ROUND_NS / slower).ceil().max(1.0) as usize;
-    let mut times = [Vec::new(), Vec::new()];
-    for _ in 0..ROUNDS {
-        times[0].push(spent(original, passes));
-        times[1].push(spent(port, passes));
+    let mut sides = [Vec::new(), Vec::new()];
+    for _ in 0..rounds {
+        sides[0].push(spent(original, passes));
+        sides[1].push(spent(port, passes));
     }
-    let middle = times.map(|mut side| {
-        side.sort_by(f64::total_cmp);
-        side[ROUNDS / 2] / passes as f64
-    });
-    Row::of(name, calls, middle)
-}
-
-/// The least time of so many passes of each side, in nanoseconds; the sides take turns.
-pub fn least(passes: usize, piece: Piece) -> Row {
-    let Piece { name, calls, original, port } = piece;
-    let mut times = [f64::INFINITY; 2];
-    for _ in 0..passes {
-        times[0] = times[0].min(spent(original, 1));
-        times[1] = times[1].min(spent(port, 1));
-    }
-    Row::of(name, calls, times)
+    sides.iter_mut().for_each(|side| side.sort_by(f64::total_cmp));
+    let row = |rank: usize| Row::of(name, calls * passes, [sides[0][rank], sides[1][rank]]);
+    Times { median: row(rounds / 2), least: row(0) }
 }

@@ -1,7 +1,7 @@
 //! How the cost of a call grows with the number of qubits n and of gates G.
 
 use crate::circuits::{brick_wall, rotations};
-use crate::clock::least;
+use crate::clock::times;
 use crate::pieces::calls::{Both, Kind};
 use crate::pieces::{tapes, Each};
 use crate::rows::Row;
@@ -13,8 +13,8 @@ const SIZES: [usize; 9] = [8, 12, 16, 24, 32, 48, 64, 96, 128];
 const GATES: [usize; 9] = [64, 96, 128, 192, 256, 384, 512, 768, 1024];
 const QUBITS: usize = 60;
 
-/// Passes of which the least counts.
-const PASSES: usize = 100;
+/// Rounds of which the least counts.
+const ROUNDS: usize = 100;
 
 /// A quantity: its name, what it is a function of, and the powers that are expected of it (two if it is a sum of both).
 pub struct Quantity {
@@ -120,12 +120,12 @@ pub fn pieces(seed: u64, each: Each) {
 /// Takes the times; prints every curve, beside the instructions that were counted before.
 pub fn curves(seed: u64, counts: &[Row]) -> Vec<Curve> {
     warm_heap();
-    let mut times = Vec::new();
-    pieces(seed, &mut |piece| times.push(least(PASSES, piece)));
+    let mut least = Vec::new();
+    pieces(seed, &mut |piece| least.push(times(ROUNDS, piece).least));
     let states = SIZES.map(|n| Row { name: STATE.at(n), sides: Both::bytes(n) });
     let mut all: Vec<Curve> = COSTS.map(|q| Curve::of(q, "instructions", counts)).into();
     all.push(Curve::of(STATE, "bytes", &states));
-    all.extend(COSTS.map(|q| Curve::of(q, "time, ns", &times)));
+    all.extend(COSTS.map(|q| Curve::of(q, "time, ns", &least)));
     all.iter().for_each(Curve::print);
     all
 }
