@@ -13,6 +13,7 @@ pub mod Integers
 pub mod Dyadic
 pub mod DyadicOrder
 pub mod Fit
+pub mod FirstTerms
 pub mod DyadicFloat
 pub mod Matrix
 pub mod Loops

@@ -44,10 +44,10 @@ round-zero s c C =
     nz-zero (round binary64 s 0 c) s c C (round-exact binary64 s 0 c 0 0 C (lit< tt) (lit< tt) (zero-mul (2 ^ low binary64) ∙ sym (zero-mul c)))
 
 -- what a zero's significand makes of a product is 0
-flat : (u d : ℕ) → zero * u * d ≡ 0
+pub flat : (u d : ℕ) → zero * u * d ≡ 0
 flat u d = ap (λ (x : ℕ). x * d) (zero-mul u) ∙ zero-mul d
 
-den : (e d : ℤ) → 0 < down e * down d
+pub den : (e d : ℤ) → 0 < down e * down d
 den e d = mul-pos (down-pos e) (down-pos d)
 
 some : (b : ℕ) → ltb 0 (suc b) ≡ true

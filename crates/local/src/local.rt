@@ -40,7 +40,7 @@ pub fn apply_local4(state: &mut [f64], n: usize, mode: usize, q: Map4)
     let s = 2 * mode;
     settle4(state, dim, s);
     rows4(state, dim, s, q);
-    columns4(state, n, mode, q);
+    columns4(state, dim, s, q);
     if det4(q) < 0.0 {
         turn_from(state, dim, s + 4);
     }

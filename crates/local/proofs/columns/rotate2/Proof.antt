@@ -12,8 +12,8 @@ returns : tie.Need-returns
 unfolding rotated upFrom dot
 returns c =
     let s = c .before .before .before .before .before in
-    all-set (s .args .row .now) (c .before .dot2 .result ∷ c .dot22 .result ∷ []) (s .pre)
-    ∙ (λ i. c .before .dot2 .ensures i ∷ c .dot22 .ensures i ∷ [])
+    all-set (s .args .row .now) (c .before .dot2 .result ∷ c .turned2 .result ∷ []) (s .pre)
+    ∙ (λ i. c .before .dot2 .ensures i ∷ c .turned2 .ensures i ∷ [])
 
 pub rotate2-spec : {M : Type 1} → statement M
 rotate2-spec =

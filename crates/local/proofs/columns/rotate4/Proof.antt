@@ -13,8 +13,8 @@ unfolding rotated upFrom dot
 returns c =
     let s = c .before .before .before .before .before .before .before .before .before in
     all-set (s .args .row .now)
-    (c .before .before .before .dot4 .result ∷ c .before .before .dot42 .result ∷ c .before .dot43 .result ∷ c .dot44 .result ∷ []) (s .pre)
-    ∙ (λ i. c .before .before .before .dot4 .ensures i ∷ c .before .before .dot42 .ensures i ∷ c .before .dot43 .ensures i ∷ c .dot44 .ensures i ∷ [])
+    (c .before .before .before .dot4 .result ∷ c .before .before .turned4 .result ∷ c .before .dot42 .result ∷ c .turned42 .result ∷ []) (s .pre)
+    ∙ (λ i. c .before .before .before .dot4 .ensures i ∷ c .before .before .turned4 .ensures i ∷ c .before .dot42 .ensures i ∷ c .turned42 .ensures i ∷ [])
 
 pub rotate4-spec : {M : Type 1} → statement M
 rotate4-spec =
