@@ -21,7 +21,8 @@ use Rattle.order.proofs.Permutation.{wire-mode}
 use Rattle.order.proofs.EdgeWires.{OnPair, OnEdge, pair-on, edges-all}
 use Rattle.resolve.specs.Items.{Item, one, two, opaque}
 use Rattle.detect.specs.Compile.{matchPairs}
-use Rattle.register.specs.Follows.{Beside, GaussianItem}
+use Rattle.register.specs.Register.{Beside}
+use Rattle.register.specs.Follows.{GaussianItem}
 
 -- ---- neighbours
 

@@ -10,8 +10,7 @@ use Rattle.laws.specs.Lists.{All}
 use Rattle.laws.specs.Bounds.{maxQubits}
 use Rattle.gate.specs.declared.matrix.Mat4.{Mat4}
 use Rattle.classify.specs.Diagonal.{interactionOf, unitOf}
-use Rattle.monomial.specs.Monomial.{Mono4, Has4}
-use Rattle.monomial.proofs.Diagonals.{diagonal}
+use Rattle.monomial.specs.Monomial.{Mono4, Has4, diagonal}
 use Rattle.resolve.specs.Items.{Item, one, two, opaque}
 use Rattle.detect.specs.Counts.{twoShare}
 use Rattle.detect.specs.Operation.{interaction}

@@ -27,9 +27,9 @@ use Rattle.detect.specs.declared.count.Counts.{Counts}
 use Rattle.detect.specs.Emit.{orientedOf}
 use Rattle.detect.specs.Counts.{apart, oneShare, adjacentShare, matchShare, twoShare, plusOf, shareOf, countedOnto, countsOf}
 use Rattle.detect.specs.Compile.{relabelsOf, reordersOf, labelsOf, itemsOf, orderOf, modeOfWire, modeOfQubit, tapeCounts}
-use Rattle.register.specs.Register.{RegisterTape}
+use Rattle.register.specs.Register.{RegisterTape, PlainGate}
 use Rattle.register.specs.Blocks.{Turn}
-use Rattle.register.specs.Follows.{PlainGate, GaussianItem, Plain}
+use Rattle.register.specs.Follows.{GaussianItem, Plain}
 use Rattle.register.proofs.Tapes.{tolerance, tape-plain}
 use Rattle.claim.proofs.Identity.{beside-modes, plain-order}
 

@@ -12,8 +12,8 @@ use Rattle.classify.specs.Diagonal.{phaseAOf, phaseBOf, unitOf, rotationOf, rot
 use Rattle.classify.specs.declared.diagonal.Rotation.{Rotation}
 use Rattle.classify.specs.declared.diagonal.Rotation.the-variants.{By, Nothing}
 use Rattle.monomial.specs.Groups.{Four, four, Mat4Of}
-use Rattle.monomial.specs.Monomial.{IsEntry, unit, Mono4, Has4, entries4}
-use Rattle.monomial.proofs.Diagonals.{diagonal, phase-a, phase-b}
+use Rattle.monomial.specs.Monomial.{IsEntry, unit, Mono4, Has4, diagonal, entries4}
+use Rattle.monomial.proofs.Diagonals.{phase-a, phase-b}
 use Rattle.monomial.proofs.Rotations.{rotation-is}
 use Rattle.detect.specs.Emit.{rotated, rotationsOf}
 use Rattle.detect.specs.Operation.{interaction}

@@ -14,12 +14,12 @@ use Rattle.classify.specs.declared.classify.Kind2.the-variants.{Diag, Interacti
 use Rattle.classify.specs.Diagonal.{interactionOf, phaseNoneOf}
 use Rattle.classify.specs.Classify.{diagonalOf, withoutPhaseOf, residual2Of, class2, plainOf, fallbackOf, swappedOf, classify2Of}
 use Rattle.monomial.specs.Groups.{Four, four, Mat4Of}
-use Rattle.monomial.specs.Monomial.{IsEntry, unit, flip, Mono4, entries4, Has4, bitA, bitB, wOf, matchgatePhase, IsMatchgate, SwappedMatchgate}
+use Rattle.monomial.specs.Monomial.{IsEntry, unit, flip, Mono4, entries4, Has4, diagonal, bitA, bitB, wOf, matchgatePhase, IsMatchgate, SwappedMatchgate}
 use Rattle.monomial.specs.Algebra.{times4, Even, monoSwap}
 use Rattle.monomial.specs.Tolerance.{Tolerance}
 use Rattle.monomial.proofs.Complexes.{zero-is}
 use Rattle.monomial.proofs.Tolerances.{zero-passes, one-fails}
-use Rattle.monomial.proofs.Diagonals.{diagonal, diagonal-is, phase-w, phase-none, phase-some, interaction-fits}
+use Rattle.monomial.proofs.Diagonals.{diagonal-is, phase-w, phase-none, phase-some, interaction-fits}
 use Rattle.monomial.proofs.Fitting.{residual-fits, residual-unfit}
 use Rattle.monomial.proofs.Algebra.{mul4-has, times-even}
 use Rattle.monomial.proofs.Gates.{has-Swap}

@@ -24,7 +24,7 @@ use Rattle.gate.specs.declared.matrix.Mat4.{Mat4}
 use Rattle.classify.specs.Diagonal.{plusThreeOf, offSquareOf, offdiag4Of, phaseAOf, phaseBOf, interactionOf, phaseNoneOf, normOf, unitOf}
 use Rattle.classify.specs.Classify.{diagonalOf}
 use Rattle.monomial.specs.Groups.{Four, four, Mat4Of}
-use Rattle.monomial.specs.Monomial.{Entry, unit, IsEntry, Mono4, entries4, entriesOf, Has4, wOf}
+use Rattle.monomial.specs.Monomial.{Entry, unit, IsEntry, Mono4, entries4, entriesOf, Has4, diagonal, wOf}
 use Rattle.monomial.specs.Tolerance.{Tolerance}
 use Rattle.monomial.proofs.Known.{Known, kn, addK, divK, IsKnown, add-known, div-known}
 use Rattle.monomial.proofs.Complexes.{k0, zero-is, zero-known}
@@ -78,10 +78,6 @@ off-counted true false false (four k l m n) = refl
 off-counted true false true (four k l m n) = refl
 off-counted true true false (four k l m n) = refl
 off-counted true true true (four k l m n) = refl
-
--- the block is diagonal
-abbrev pub diagonal : Mono4 → Bool
-diagonal b = not (b .swap) && (not (b .turnA) && not (b .turnB))
 
 offSquare-fits : (u : Mat4) → T (fits binary64 (offSquareOf u))
 unfolding offSquareOf plusThreeOf

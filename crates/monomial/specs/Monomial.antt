@@ -1,7 +1,7 @@
 -- Monomial matrices: one entry in each row and column, a phase. The gates of a register tape and their products are such. A float matrix "has" these
 -- entries whatever the signs of its zeros. Assumes nothing.
 use mathlib.Core.Path.{_≡_}
-use mathlib.Core.Bool.{Bool, true, false, not, cond}
+use mathlib.Core.Bool.{Bool, true, false, not, cond, _&&_}
 use lib.IntN.{ℤ, pos}
 use Rattle.laws.specs.Dyadic.{Dy}
 use Rattle.laws.specs.Phase.{Phase, i0, i2, _⊕_, minus, realZ, imagZ}
@@ -89,6 +89,10 @@ entriesOf b = entries4 (b .swap) (b .turnA) (b .turnB) (b .phases)
 -- u has the entries of b
 abbrev pub Has4 : Mat4 → Mono4 → Type 0
 Has4 u b = Mat4Of IsEntry u (entriesOf b)
+
+-- the block is diagonal: no bit moves
+abbrev pub diagonal : Mono4 → Bool
+diagonal b = not (b .swap) && (not (b .turnA) && not (b .turnB))
 
 -- ---- the phase of the two together
 

@@ -13,10 +13,9 @@ use Rattle.laws.proofs.Tables.{update-here, update-away, two-first, two-second,
 use Rattle.gate.specs.Matrix.{id2, mul2Of, mul4Of, kronOf, mat4SwapQubitsOf}
 use Rattle.gate.specs.declared.matrix.Mat2.{Mat2}
 use Rattle.gate.specs.declared.matrix.Mat4.{Mat4}
-use Rattle.monomial.specs.Monomial.{flip, Mono4, Has4, bitA, bitB}
+use Rattle.monomial.specs.Monomial.{flip, Mono4, Has4, diagonal, bitA, bitB}
 use Rattle.monomial.specs.Algebra.{times4, kron4, renamed}
 use Rattle.monomial.proofs.Algebra.{mul4-has, kron-has, renamed-has}
-use Rattle.monomial.proofs.Diagonals.{diagonal}
 use Rattle.fuse.specs.Events.{Event, gone, one, two, three}
 use Rattle.fuse.specs.Fuse.{fused}
 use Rattle.fuse.specs.Compress.{compressed}

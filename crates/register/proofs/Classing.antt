@@ -13,11 +13,10 @@ use Rattle.majorana.specs.Majorana.{swap4Of}
 use Rattle.classify.specs.Classify.{class2, classify2Of}
 use Rattle.classify.specs.declared.classify.Kind2.{Kind2}
 use Rattle.classify.specs.declared.classify.Kind2.the-variants.{Diag, Interaction, Match, NonGaussian}
-use Rattle.monomial.specs.Monomial.{flip, Mono4, Has4, wOf, matchgatePhase, IsMatchgate, SwappedMatchgate}
+use Rattle.monomial.specs.Monomial.{flip, Mono4, Has4, diagonal, wOf, matchgatePhase, IsMatchgate, SwappedMatchgate}
 use Rattle.monomial.specs.Algebra.{Even}
 use Rattle.monomial.specs.Tolerance.{Tolerance}
 use Rattle.monomial.proofs.Algebra.{times-even, kron-even, renamed-even, times-fits, kron-fits, renamed-fits}
-use Rattle.monomial.proofs.Diagonals.{diagonal}
 use Rattle.monomial.proofs.Classes.{swapped, swapped-has, swapped-bitA, swapped-bitB, swapped-even, swapped-fits, classify-fits, classify-unfit, classify-swapped}
 use Rattle.resolve.specs.Items.{kindOf}
 use Rattle.register.specs.Blocks.{Closed, EvenSum, KindIs, matchgate, phaseless, interacting, neither, ClassIs, Rules}

@@ -22,9 +22,8 @@ use Rattle.monomial.specs.Algebra.{Even, mono1qOf, mono2qFrom}
 use Rattle.monomial.proofs.Tests.{at-each}
 use Rattle.monomial.proofs.Gates.{code1-has, code1-turns, code2-has, code2-exchanges, code2-even}
 use Rattle.fuse.specs.Relabel.{swapCode}
-use Rattle.register.specs.Register.{registerOne, registerTwo, RegisterGate, exchanges}
+use Rattle.register.specs.Register.{registerOne, registerTwo, RegisterGate, Beside, PlainGate, exchanges}
 use Rattle.register.specs.Blocks.{EvenSum, GateIs}
-use Rattle.register.specs.Follows.{Beside, PlainGate}
 
 -- ---- the codes
 

@@ -28,10 +28,10 @@ use Rattle.resolve.specs.Items.{Item}
 use Rattle.resolve.specs.Cuts.{ones, ahead}
 use Rattle.resolve.specs.Resolve.{Rest, none, opened, startOf}
 use Rattle.resolve.specs.Whole.{resolvedOf, Fused, fuseOf}
-use Rattle.register.specs.Register.{RegisterGate}
+use Rattle.register.specs.Register.{RegisterGate, Beside, PlainGate}
 use Rattle.register.specs.Bits.{turnedOf, eventsRun, itemsRun, zeros}
 use Rattle.register.specs.Blocks.{Turn, EvenSum, Pair, Places, GateIs, Rules, ItemIs, KindIs, matchgate, phaseless, interacting, neither}
-use Rattle.register.specs.Follows.{Follows, anyPair, Beside, PlainGate, GaussianItem, Plain}
+use Rattle.register.specs.Follows.{Follows, anyPair, GaussianItem, Plain}
 use Rattle.register.proofs.Readings.{turn-id, turned-id}
 use Rattle.register.proofs.Changes.{passes-keep}
 use Rattle.register.proofs.Permuting.{identity-places}

@@ -28,9 +28,9 @@ use Rattle.tape.proofs.GoodLaws.{gates-good}
 use Rattle.monomial.specs.Tolerance.{Tolerance}
 use Rattle.fuse.specs.Relabel.{labelled, unlabelled}
 use Rattle.resolve.specs.Whole.{fuseOf}
-use Rattle.register.specs.Register.{RegisterGate, RegisterTape}
+use Rattle.register.specs.Register.{RegisterGate, RegisterTape, PlainGate}
 use Rattle.register.specs.Blocks.{EvenSum}
-use Rattle.register.specs.Follows.{Follows, anyPair, PlainGate, Plain}
+use Rattle.register.specs.Follows.{Follows, anyPair, Plain}
 use Rattle.register.proofs.Items.{items-follow, items-plain}
 
 -- ---- of two numbers one is at most the other

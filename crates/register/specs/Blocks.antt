@@ -13,9 +13,8 @@ use Rattle.gate.specs.declared.matrix.Mat4.{Mat4}
 use Rattle.work.specs.Columns.{matchItem, diagonalItem, interactionItem, neitherItem}
 use Rattle.tape.specs.declared.gates.Gate.{Gate}
 use Rattle.tape.specs.declared.gates.Gate.the-variants.{One, Two, Three}
-use Rattle.monomial.specs.Monomial.{Mono2, Mono4, Has2, Has4, bitA, bitB, IsMatchgate, SwappedMatchgate}
+use Rattle.monomial.specs.Monomial.{Mono2, Mono4, Has2, Has4, diagonal, bitA, bitB, IsMatchgate, SwappedMatchgate}
 use Rattle.monomial.specs.Algebra.{times4, kron4, renamed, Even}
-use Rattle.monomial.proofs.Diagonals.{diagonal}
 use Rattle.classify.specs.Classify.{classify2Of}
 use Rattle.classify.specs.declared.classify.Class2.{Class2}
 use Rattle.fuse.specs.Relabel.{swapCode}

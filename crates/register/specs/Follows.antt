@@ -1,20 +1,19 @@
 -- What is shown of a register tape's items: they follow the register; and without Swap and with neighbouring pairs nothing is renamed, and every item
 -- is Gaussian. Assumes nothing.
 use mathlib.Core.Path.{_≡_}
-use mathlib.Core.Logic.{_⊎_, _≢_}
+use mathlib.Core.Logic.{_⊎_}
 use mathlib.Core.Bool.{Bool}
 use mathlib.Core.List.{List}
-use Prim.Native.Nat.{ℕ, _+_, _<_}
+use Prim.Native.Nat.{ℕ, _<_}
 use lib.ListN.{getD}
 use Rattle.laws.specs.Lists.{All}
 use Rattle.tape.specs.declared.gates.Gate.{Gate}
-use Rattle.tape.specs.declared.gates.Gate.the-variants.{One, Two, Three}
 use Rattle.work.specs.Columns.{matchItem, diagonalItem}
 use Rattle.monomial.specs.Monomial.{Mono4, IsMatchgate}
-use Rattle.fuse.specs.Relabel.{swapCode, Labelled, slotOf}
+use Rattle.fuse.specs.Relabel.{Labelled, slotOf}
 use Rattle.resolve.specs.Items.{Item, one, two, opaque}
 use Rattle.resolve.specs.Whole.{Fused}
-use Rattle.register.specs.Register.{registerBits}
+use Rattle.register.specs.Register.{Beside, registerBits}
 use Rattle.register.specs.Bits.{itemsRun, zeros}
 use Rattle.register.specs.Blocks.{Turn, Block, Places, ItemIs}
 
@@ -35,16 +34,6 @@ abbrev pub anyPair : ℕ → ℕ → Type 0
 anyPair a b = Unit {0}
 
 -- ---- demand 3's last sentence
-
--- "every pair is q and q+1"; "a pair may be named in either order"
-abbrev pub Beside : ℕ → ℕ → Type 0
-Beside a b = (b ≡ a + 1) ⊎ (a ≡ b + 1)
-
--- "no Swap occurs"
-abbrev pub PlainGate : Gate → Type 0
-PlainGate (One code q m) = Unit {0}
-PlainGate (Two code a b m) = (code ≢ swapCode) × Beside a b
-PlainGate (Three a b c) = ⊥
 
 -- a matchgate on neighbours, or diagonal with no phase, or on one wire
 abbrev pub GaussianItem : ℕ → Item → Type 0

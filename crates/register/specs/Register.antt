@@ -1,9 +1,11 @@
 -- The bit register (document 01, "The bit register"): "A register tape has gates of the codes 00, 02 to 06 and 12 to 14 only, and any labels, flags,
 -- tolerance and limit. The register is fed its n and its gate records in tape order, nothing else. It holds n bits, all zero at first." Codes are
 -- hexadecimal. Assumes nothing.
+use mathlib.Core.Path.{_≡_}
+use mathlib.Core.Logic.{_⊎_, _≢_}
 use mathlib.Core.Bool.{Bool, false, not, cond, _&&_, _||_}
 use mathlib.Core.List.{List, [], _∷_, List·Memᴰ}
-use Prim.Native.Nat.{ℕ}
+use Prim.Native.Nat.{ℕ, _+_}
 use lib.Dec.{T, eqb, leb}
 use Rattle.laws.specs.Tables.{update, exchange}
 use Rattle.tape.specs.Parse.{gatesOf}
@@ -31,6 +33,18 @@ RegisterGate x = T (isRegisterGate x)
 -- "A register tape has gates of the codes .. only"
 abbrev pub RegisterTape : List ℕ → Type 0
 RegisterTape t = (x : Gate) → List·Memᴰ x (gatesOf t) → RegisterGate x
+
+-- ---- demand 3's last sentence: the gates of a tape that must be accepted
+
+-- "every pair is q and q+1"; "a pair may be named in either order"
+abbrev pub Beside : ℕ → ℕ → Type 0
+Beside a b = (b ≡ a + 1) ⊎ (a ≡ b + 1)
+
+-- "no Swap occurs"
+abbrev pub PlainGate : Gate → Type 0
+PlainGate (One code q m) = Unit {0}
+PlainGate (Two code a b m) = (code ≢ 0x12) × Beside a b
+PlainGate (Three a b c) = ⊥
 
 -- ---- the bits
 
