@@ -38,9 +38,9 @@ use Rattle.basis.proofs.Marginals.{marginal-told, probability-told}
 use Rattle.basis.proofs.Shots.{sample-told}
 use Rattle.evolve.specs.Evolve.{evolved}
 use Rattle.evolve.proofs.Evolving.{stored-long}
-use Rattle.claim.specs.Queries.{Query, expectation, correlation, product, marginal, probability, sample, number, answer, answers, registerAnswer}
+use Rattle.claim.specs.Queries.{Query, expectation, correlation, product, marginal, probability, sample, number, answer, answers, Begins, registerAnswer}
 use Rattle.claim.specs.Queries.{productPasses, listPasses, shotsPass, passes, RightAnswers}
-use Rattle.claim.proofs.Tables.{qubits-few, modes-read, table-permutes}
+use Rattle.claim.proofs.Tables.{qubits-few, modes-read, lent-permutes}
 use Rattle.claim.proofs.Tapes.{tape-holds}
 
 -- ---- a query whose own questions pass, on a state that passes 16, is answered
@@ -113,7 +113,7 @@ module _ (n : ℕ) (b r : ℕ → Bool) (s : List Float) (modes : List ℕ) (ok 
       let told = sample-told n b r s modes R shots draws w out e in
       λ t. record { told = told .0 t; out = told .1 t }
 
-  pub answers-right : (qs : List Query) → RightAnswers n modes r qs (answers n s modes qs)
+  pub answers-right : (qs : List Query) → RightAnswers n modes r qs (answers answer n s modes qs)
   unfolding answers
   answers-right [] = tt
   answers-right (q ∷ qs) = (record { answered = query-answered n s modes ok q; right = query-right q }, answers-right qs)
@@ -124,27 +124,26 @@ module _ (n : ℕ) (b r : ℕ → Bool) (s : List Float) (modes : List ℕ) (ok 
 abbrev left : Header → Content → List Float → List Float
 left h c s = stored (dimOf (h .n)) (evolved (h .n) (programOf h (c .gates))) s
 
-module _ (t : List ℕ) (h : Header) (c : Content) (e : parse t ≡ accepted h c) (s : List Float) (room : statePlaces (dimOf (h .n)) ≤ length s) where
-  pub passes-sixteen : stateOk (h .n) (left h c s) (reportedOf h (c .gates) .modes) ≡ true
+-- with any mode table that is lent for the report's
+module _ (t : List ℕ) (h : Header) (c : Content) (e : parse t ≡ accepted h c) (s : List Float) (room : statePlaces (dimOf (h .n)) ≤ length s)
+    (modes : List ℕ) (lent : Begins (h .n) (reportedOf h (c .gates) .modes) modes) where
+  pub passes-sixteen : stateOk (h .n) (left h c s) modes ≡ true
   unfolding stateOk
   passes-sixteen =
       let long : statePlaces (dimOf (h .n)) ≤ length (left h c s) =
       rw (stored-long (dimOf (h .n)) (evolved (h .n) (programOf h (c .gates))) s (left h c s) room refl) room in
-      rw (le-leb (h .n) maxQubits (qubits-few t h c e), le-leb (statePlaces (dimOf (h .n))) (length (left h c s)) long) (table-permutes t h c e)
+      rw (le-leb (h .n) maxQubits (qubits-few t h c e), le-leb (statePlaces (dimOf (h .n))) (length (left h c s)) long)
+      (lent-permutes t h c e modes lent)
 
   module _ (register : RegisterTape t) (free : freeOf (tapeCounts h (c .gates)) ≡ true) where
-    tape-reads : (b : ℕ → Bool) × Reads (h .n) b (registerBits (c .gates)) (covarianceOf (h .n) (left h c s)) (reportedOf h (c .gates) .modes)
+    tape-reads : (b : ℕ → Bool) × Reads (h .n) b (registerBits (c .gates)) (covarianceOf (h .n) (left h c s)) modes
     tape-reads =
         let w = tape-holds t h c e register free in (
           w .0,
-          slice-reads (h .n) (w .0) (registerBits (c .gates)) s (left h c s) (evolved (h .n) (programOf h (c .gates)))
-              (reportedOf h (c .gates) .modes) (qubits-few t h c e)
-              (stored-is (dimOf (h .n)) s (evolved (h .n) (programOf h (c .gates))) (left h c s) room refl) (w .1) (table-permutes t h c e)
-              (λ q l. ap (w .0) (modes-read t h c e q l) ∙ w .2 q l),
+          slice-reads (h .n) (w .0) (registerBits (c .gates)) s (left h c s) (evolved (h .n) (programOf h (c .gates))) modes (qubits-few t h c e)
+              (stored-is (dimOf (h .n)) s (evolved (h .n) (programOf h (c .gates))) (left h c s) room refl) (w .1) (lent-permutes t h c e modes lent)
+              (λ q l. ap (w .0) (lent .same q l ∙ modes-read t h c e q l) ∙ w .2 q l),
         )
 
-    pub tape-answers : (qs : List Query)
-        → RightAnswers (h .n) (reportedOf h (c .gates) .modes) (registerBits (c .gates)) qs
-        (answers (h .n) (left h c s) (reportedOf h (c .gates) .modes) qs)
-    tape-answers =
-        answers-right (h .n) (tape-reads .0) (registerBits (c .gates)) (left h c s) (reportedOf h (c .gates) .modes) passes-sixteen (tape-reads .1)
+    pub tape-answers : (qs : List Query) → RightAnswers (h .n) modes (registerBits (c .gates)) qs (answers answer (h .n) (left h c s) modes qs)
+    tape-answers = answers-right (h .n) (tape-reads .0) (registerBits (c .gates)) (left h c s) modes passes-sixteen (tape-reads .1)

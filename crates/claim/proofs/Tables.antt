@@ -1,5 +1,5 @@
 -- The mode table of an accepted tape passes question 16: "the mode table's first n a permutation". Assumes nothing.
-use mathlib.Core.Path.{_≡_, ap}
+use mathlib.Core.Path.{_≡_, refl, sym, ap, _∙_}
 use mathlib.Core.Bool.{true, not}
 use mathlib.Core.List.{List}
 use Prim.Native.Nat.{ℕ, _≤_, _<_}
@@ -19,6 +19,7 @@ use Rattle.detect.specs.Compile.{modeOfQubit, reportedOf}
 use Rattle.detect.proofs.Entries.{length-table}
 use Rattle.detect.proofs.Reports.{mode-at, mode-table-below, mode-table-apart}
 use Rattle.register.proofs.Tapes.{header-good, good-gates}
+use Rattle.claim.specs.Queries.{Begins}
 
 -- n entries or more, the first n below n and different
 permutation-is : (n : ℕ) (l : List ℕ) → n ≤ length l → ((q : ℕ) → q < n → modeAt l q < n)
@@ -44,7 +45,16 @@ module _ (t : List ℕ) (h : Header) (c : Content) (e : parse t ≡ accepted h c
   pub modes-read : (q : ℕ) → q < h .n → modeAt (reportedOf h (c .gates) .modes) q ≡ modeOfQubit h (c .gates) q
   modes-read q l = mode-at h (c .gates) qubits-few (good-gates t h c e) q l
 
+  -- the report's table, and whatever is lent for it
+  pub own-table : Begins (h .n) (reportedOf h (c .gates) .modes) (reportedOf h (c .gates) .modes)
+  own-table = record { long = rw (table-long h (c .gates)) qubits-few; same = λ q l. refl }
+
+  pub lent-permutes : (modes : List ℕ) → Begins (h .n) (reportedOf h (c .gates) .modes) modes → isPermutation (h .n) modes ≡ true
+  lent-permutes modes lent =
+      permutation-is (h .n) modes (lent .long)
+      (λ q l. rw (lent .same q l) (mode-table-below h (c .gates) qubits-few (good-gates t h c e) q l))
+      (λ p q k l f.
+          mode-table-apart h (c .gates) qubits-few (good-gates t h c e) p q k l (sym (lent .same p k) ∙ f ∙ lent .same q l))
+
   pub table-permutes : isPermutation (h .n) (reportedOf h (c .gates) .modes) ≡ true
-  table-permutes =
-      permutation-is (h .n) (reportedOf h (c .gates) .modes) (rw (table-long h (c .gates)) qubits-few)
-      (mode-table-below h (c .gates) qubits-few (good-gates t h c e)) (mode-table-apart h (c .gates) qubits-few (good-gates t h c e))
+  table-permutes = lent-permutes (reportedOf h (c .gates) .modes) own-table

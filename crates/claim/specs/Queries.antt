@@ -3,11 +3,12 @@
 use mathlib.Core.Path.{_≡_}
 use mathlib.Core.Bool.{Bool, true, not, cond, _&&_}
 use mathlib.Core.List.{List, [], _∷_}
-use Prim.Native.Nat.{ℕ, _*_}
+use Prim.Native.Nat.{ℕ, _*_, _≤_, _<_}
 use lib.Dec.{leb, ltb}
 use lib.ListN.{getD, length}
 use lib.Ieee.{Float}
 use Rattle.laws.specs.Zeros.{+0}
+use Rattle.laws.specs.Tables.{modeAt}
 use Rattle.state.specs.Bounds.{dimOf}
 use Rattle.state.specs.Answers.{Told, accepted}
 use Rattle.state.specs.Calls.{expectationZOf}
@@ -51,10 +52,19 @@ answer n s modes (marginal qs bits w) = number (marginalProbabilityOf n s modes 
 answer n s modes (probability low high w) = number (probabilityOf n s modes low high w)
 answer n s modes (sample shots draws w out) = record { told = sampleOf n s modes shots draws w out; out = sampleOut n s modes shots draws w out }
 
+-- how a query is put to n qubits, a state slice and a mode table, and what it is given: `answer`, or another engine's
+abbrev pub Ask : Type 0
+Ask = ℕ → List Float → List ℕ → Query → Given
+
 -- "Each query, answered or refused, leaves that state as it was for the next": the calls are lent the state to read only, so every one finds s
-unfoldable pub answers : ℕ → List Float → List ℕ → List Query → List Given
-answers n s modes [] = []
-answers n s modes (q ∷ qs) = answer n s modes q ∷ answers n s modes qs
+unfoldable pub answers : Ask → ℕ → List Float → List ℕ → List Query → List Given
+answers ask n s modes [] = []
+answers ask n s modes (q ∷ qs) = ask n s modes q ∷ answers ask n s modes qs
+
+-- the mode table `modes` is lent for `table`: it has n entries or more, and the first n are those of `table`
+pub record Begins (n : ℕ) (table modes : List ℕ) : Type 0 where
+  pub long : n ≤ length modes
+  pub same : (q : ℕ) → q < n → modeAt modes q ≡ modeAt table q
 
 -- ---- the bit register, with its n and its last bits
 

@@ -9,6 +9,7 @@ use lib.Ieee.{Float}
 use borrow.Author.Tests.{lt-ltb, le-ltb}
 use Rattle.laws.specs.Slices.{filled}
 use Rattle.laws.proofs.Slices.{filled-over}
+use Rattle.tape.specs.Parse.{Content}
 use Rattle.tape.specs.declared.header.Header.{Header}
 use Rattle.tape.specs.declared.gates.Gate.{Gate}
 use Rattle.detect.specs.declared.report.Report.{Report}
@@ -16,7 +17,8 @@ use Rattle.detect.specs.Operation.{Operation, allPlaces, written}
 use Rattle.detect.specs.Emit.{operationsOf}
 use Rattle.detect.specs.Records.{itemsIn, modesIn}
 use Rattle.detect.specs.Report.{freeOf, reportOf}
-use Rattle.detect.specs.Compile.{itemsOf, modeOfWire, tapeCounts, reportedOf, programOf, refusal, done, answerOf, writtenOf}
+use Rattle.detect.specs.Compile.{itemsOf, modeOfWire, tapeCounts, reportedOf, programOf}
+use Rattle.detect.specs.Questions.{late, passed, askedTen}
 use Rattle.detect.specs.Program.{Detected}
 use Rattle.detect.proofs.Placing.{length-all, placed-none}
 use Rattle.detect.proofs.Emitting.{counts-operations, operations-same}
@@ -30,22 +32,12 @@ filled-whole v d l m e =
 
 -- ---- question 10
 
-module _ (os : List Operation) where
-  pub answer-short : (o : ℕ) (r : Report) → o < 18 * length os → answerOf o r os ≡ refusal 10 0
-  unfolding answerOf
-  answer-short o r h = rw (lt-ltb o (18 * length os) h)
+module _ (h : Header) (c : Content) (o : ℕ) where
+  pub ten-short : o < 18 * length (programOf h (c .gates)) → askedTen o h c ≡ late 10 h c
+  ten-short l = rw (lt-ltb o (18 * length (programOf h (c .gates))) l)
 
-  pub answer-long : (o : ℕ) (r : Report) → 18 * length os ≤ o → answerOf o r os ≡ done r
-  unfolding answerOf
-  answer-long o r h = rw (le-ltb o (18 * length os) h)
-
-  pub written-short : (l : List Float) → length l < 18 * length os → writtenOf os l ≡ l
-  unfolding writtenOf
-  written-short l h = rw (lt-ltb (length l) (18 * length os) h)
-
-  pub written-long : (l : List Float) → 18 * length os ≤ length l → writtenOf os l ≡ written os l
-  unfolding writtenOf
-  written-long l h = rw (le-ltb (length l) (18 * length os) h)
+  pub ten-long : 18 * length (programOf h (c .gates)) ≤ o → askedTen o h c ≡ passed h c
+  ten-long l = rw (le-ltb o (18 * length (programOf h (c .gates))) l)
 
 -- ---- the report's numbers
 

@@ -1,18 +1,18 @@
 -- From the check of a tape to its parse, the front of a slice made zero, and question 9. Assumes nothing.
-use mathlib.Core.Path.{_≡_, refl, ap, ap₂, _∙_}
+use mathlib.Core.Path.{_≡_, refl, sym, ap, ap₂, _∙_}
 use mathlib.Core.Bool.{Bool, true, false, cond}
 use mathlib.Core.List.{List, [], _∷_, _++_}
 use Prim.Native.Nat.{ℕ, zero, suc, _+_, _*_, _-_, _≤_, _<_}
 use native.Mathlib.Omega.{arith}
 use lib.ListN.{length, take, drop}
 use lib.Seq.{length-take-le}
-use lib.Ieee.{Float}
 use borrow.Author.Tests.{lt-ltb, le-ltb}
 use Rattle.laws.specs.Slices.{mappedTo, filled}
 use Rattle.tape.specs.Parse.{Parsed, Content, refused, accepted, contentOf, checkedOf}
 use Rattle.tape.specs.declared.header.Header.{Header}
 use Rattle.tape.specs.declared.check.Checked.the-variants.{Good, Refused}
-use Rattle.detect.specs.Compile.{hasWork, refusal, checkedAnswer, compileOf, workAfter, writtenOf, opsAfter, programOf}
+use Rattle.detect.specs.Compile.{programOf}
+use Rattle.detect.specs.Questions.{Asked, early, late, passed, workAfter, hasWork, askedNine, askedFrom, opsLack, askedTen}
 
 -- ---- tests
 
@@ -59,38 +59,34 @@ module _ (p : Parsed) (r i : ℕ) (e : checkedOf p ≡ Refused r i) where
       by (refused s j) q = let a : s ≡ r = cc in let b : j ≡ i = cc in rw (a, b)
       by (accepted h c) q = absurd (let z : _≡_ {A = ℕ} 0 1 = cc in omega arith)
 
-  pub refused-answer : (w u o : ℕ) → compileOf p w u o ≡ refusal r i
-  unfolding compileOf
-  refused-answer w u o = ap (λ p. compileOf p w u o) refused-is
-
-  pub refused-work : {A : Type 0} (w u : ℕ) (k : ℕ → ℕ → ℕ) (v : A) (l : List A) → workAfter p w u k v l ≡ l
-  unfolding workAfter
-  refused-work w u k v l = ap (λ p. workAfter p w u k v l) refused-is
-
-  pub refused-ops : (w u : ℕ) (l : List Float) → opsAfter p w u l ≡ l
-  unfolding opsAfter
-  refused-ops w u l = ap (λ p. opsAfter p w u l) refused-is
+  pub asked-refused : (next : Header → Content → Asked) (w u : ℕ) → askedFrom next p w u ≡ early r i
+  unfolding askedFrom
+  asked-refused next w u = ap (λ p. askedFrom next p w u) refused-is
 
 -- ---- one that is accepted
 
-module _ (p : Parsed) (h : Header) (g l : ℕ) (e : checkedOf p ≡ Good h g l) where
-  -- what is so of the header and the number of gates is so of the parse
-  good-is : {A : Type 0} (f : Parsed → A) (f′ : Header → ℕ → Parsed → A) → ((k : Header) (c : Content) → f (accepted k c) ≡ f′ k (length (c .gates)) (accepted k c)) → f p ≡ f′ h g p
-  unfolding checkedOf
-  good-is {A = A} f f′ s = by p e
-    where
-      by : (p : Parsed) → checkedOf p ≡ Good h g l → f p ≡ f′ h g p
-      by (refused r i) q = absurd (let z : _≡_ {A = ℕ} 0 1 = cc in omega arith)
-      by (accepted k c) q = let a : k ≡ h = cc in let b : length (c .gates) ≡ g = cc in s k c ∙ ap₂ (λ x y. f′ x y (accepted k c)) a b
+pub asked-good : (p : Parsed) (h : Header) (g l : ℕ) → checkedOf p ≡ Good h g l
+    → (next : Header → Content → Asked) (w u : ℕ) → askedFrom next p w u ≡ askedNine next h (contentOf p) g w u
+unfolding checkedOf askedFrom contentOf
+asked-good (refused r i) h g l e next w u = absurd (let z : _≡_ {A = ℕ} 0 1 = cc in omega arith)
+asked-good (accepted k c) h g l e next w u =
+    let a : k ≡ h = cc in
+    let b : length (c .gates) ≡ g = cc in
+    ap₂ (λ h g. askedNine next h c g w u) a b
 
-  pub good-answer : (w u o : ℕ) → compileOf p w u o ≡ checkedAnswer h (contentOf p .gates) g w u o
-  unfolding compileOf contentOf
-  good-answer w u o = good-is (λ p. compileOf p w u o) (λ h g p. checkedAnswer h (contentOf p .gates) g w u o) (λ k c. refl)
+-- ---- work is zero from 9 on
 
-  pub good-work : {A : Type 0} (w u : ℕ) (k : ℕ → ℕ → ℕ) (v : A) (m : List A) → workAfter p w u k v m ≡ cond (hasWork g (h .n) w u) (filled (k g (h .n)) v m) m
-  unfolding workAfter
-  good-work w u k v m = good-is (λ p. workAfter p w u k v m) (λ h g p. cond (hasWork g (h .n) w u) (filled (k g (h .n)) v m) m) (λ k c. refl)
+pub ten-work : {A : Type 0} (k : ℕ → ℕ → ℕ) (v : A) (o : ℕ) (h : Header) (c : Content) (l : List A)
+    → workAfter k v (askedTen o h c) l ≡ filled (k (length (c .gates)) (h .n)) v l
+unfolding workAfter
+ten-work k v o h c l = by (opsLack o (length (programOf h (c .gates))))
+  where
+    by : (b : Bool) → workAfter k v (cond b (late 10 h c) (passed h c)) l ≡ filled (k (length (c .gates)) (h .n)) v l
+    by true = refl
+    by false = refl
 
-  pub good-ops : (w u : ℕ) (m : List Float) → opsAfter p w u m ≡ cond (hasWork g (h .n) w u) (writtenOf (programOf h (contentOf p .gates)) m) m
-  unfolding opsAfter contentOf
-  good-ops w u m = good-is (λ p. opsAfter p w u m) (λ h g p. cond (hasWork g (h .n) w u) (writtenOf (programOf h (contentOf p .gates)) m) m) (λ k c. refl)
+pub nine-work : {A : Type 0} (k : ℕ → ℕ → ℕ) (v : A) (next : Header → Content → Asked) (h : Header) (c : Content) (g w u : ℕ) (l : List A)
+    → hasWork g (h .n) w u ≡ true → g ≡ length (c .gates) → workAfter k v (next h c) l ≡ filled (k (length (c .gates)) (h .n)) v l
+    → filled (k g (h .n)) v l ≡ workAfter k v (askedNine next h c g w u) l
+nine-work k v next h c g w u l some count rest =
+    ap (λ g. filled (k g (h .n)) v l) count ∙ sym rest ∙ sym (ap (λ x. workAfter k v x l) (taken _ _ _ some))

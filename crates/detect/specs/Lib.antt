@@ -6,4 +6,5 @@ pub mod Counts
 pub mod Kept
 pub mod Report
 pub mod Compile
+pub mod Questions
 pub mod Program

@@ -7,13 +7,13 @@ ghost use Rattle.laws.specs.Slices.{filled};
 ghost use Rattle.laws.specs.Bounds.{maxQubits};
 ghost use Rattle.gate.specs.Complex.{f0};
 ghost use Rattle.tape.specs.Bounds.{maxGates};
-ghost use Rattle.tape.specs.Parse.{gatesOf};
 ghost use Rattle.fuse.specs.Slotted.{Gates};
 ghost use Rattle.detect.specs.Operation.{allPlaces, written};
 ghost use Rattle.detect.specs.Emit.{operationsIn};
 ghost use Rattle.detect.specs.Records.{Held};
 ghost use Rattle.detect.specs.Kept.{Kept};
-ghost use Rattle.detect.specs.Compile.{workFloats, workMarks, answerOf, writtenOf, reportedOf, programOf, checkedAnswer, checkedLent, checkedOps, Lent, compiled, compiledWork, compiledMarks, compiledOps};
+ghost use Rattle.detect.specs.Questions.{answerOf, workAfter, opsAfter, workFloats, workMarks, tenAsked, nineAsked, Lent};
+ghost use Rattle.detect.specs.Questions.{compiled, compiledWork, compiledMarks, compiledOps};
 use crate::emit::emit_all;
 use crate::places::OP_PLACES;
 use crate::program::detect;
@@ -63,10 +63,10 @@ fn compile_in(
     ops: &mut [f64],
 ) -> Compiled
     requires { ⌜ Lent (now tape) h g (now w) (now u) ⌝ }
-    ensures answer { λ r. ⌜ r ≡ answerOf (length (now (ops .entry))) (reportedOf h (gatesOf (now (tape .entry)))) (programOf h (gatesOf (now (tape .entry)))) ⌝ }
+    ensures answer { λ r. ⌜ r ≡ answerOf (tenAsked (now (tape .entry)) h (now (ops .entry))) ⌝ }
     ensures work { λ _. ⌜ now (w .exit) ≡ filled (length (now (w .entry))) f0 (now (w .entry)) ⌝ }
     ensures marks { λ _. ⌜ now (u .exit) ≡ filled (length (now (u .entry))) 0 (now (u .entry)) ⌝ }
-    ensures ops { λ _. ⌜ now (ops .exit) ≡ writtenOf (programOf h (gatesOf (now (tape .entry)))) (now (ops .entry)) ⌝ }
+    ensures ops { λ _. ⌜ now (ops .exit) ≡ opsAfter (tenAsked (now (tape .entry)) h (now (ops .entry))) (now (ops .entry)) ⌝ }
 {
     let r = detect(tape, h, g, w, u);
     if ops.len() < OP_PLACES * (r.operations as usize) {
@@ -94,10 +94,13 @@ fn compile_checked(
     ops: &mut [f64],
 ) -> Compiled
     requires { ⌜ Gates (now tape) g (h .n) × (h .n ≤ maxQubits) × (g ≤ maxGates) ⌝ }
-    ensures answer { λ r. ⌜ r ≡ checkedAnswer h (gatesOf (now (tape .entry))) g (length (now (work .entry))) (length (now (marks .entry))) (length (now (ops .entry))) ⌝ }
-    ensures work { λ _. ⌜ now (work .exit) ≡ checkedLent g (h .n) (length (now (work .entry))) (length (now (marks .entry))) workFloats f0 (now (work .entry)) ⌝ }
-    ensures marks { λ _. ⌜ now (marks .exit) ≡ checkedLent g (h .n) (length (now (work .entry))) (length (now (marks .entry))) workMarks 0 (now (marks .entry)) ⌝ }
-    ensures ops { λ _. ⌜ now (ops .exit) ≡ checkedOps h (gatesOf (now (tape .entry))) g (length (now (work .entry))) (length (now (marks .entry))) (now (ops .entry)) ⌝ }
+    ensures answer { λ r. ⌜ r ≡ answerOf (nineAsked (now (tape .entry)) h g (now (work .entry)) (now (marks .entry)) (now (ops .entry))) ⌝ }
+    ensures work { λ _. ⌜ now (work .exit)
+        ≡ workAfter workFloats f0 (nineAsked (now (tape .entry)) h g (now (work .entry)) (now (marks .entry)) (now (ops .entry))) (now (work .entry)) ⌝ }
+    ensures marks { λ _. ⌜ now (marks .exit)
+        ≡ workAfter workMarks 0 (nineAsked (now (tape .entry)) h g (now (work .entry)) (now (marks .entry)) (now (ops .entry))) (now (marks .entry)) ⌝ }
+    ensures ops { λ _. ⌜ now (ops .exit)
+        ≡ opsAfter (nineAsked (now (tape .entry)) h g (now (work .entry)) (now (marks .entry)) (now (ops .entry))) (now (ops .entry)) ⌝ }
 {
     let n = h.n;
     let floats = 64 * (g + n);
@@ -122,8 +125,8 @@ fn compile_checked(
 // whatever the answer. A refusal leaves the operations alone; blocks that are bad are reported, not refused.
 pub fn compile(tape: &[u8], work: &mut [f64], marks: &mut [u32], ops: &mut [f64]) -> Compiled
     ensures answer { λ r. ⌜ r ≡ compiled (now (tape .entry)) (now (work .entry)) (now (marks .entry)) (now (ops .entry)) ⌝ }
-    ensures work { λ _. ⌜ now (work .exit) ≡ compiledWork (now (tape .entry)) (now (work .entry)) (now (marks .entry)) ⌝ }
-    ensures marks { λ _. ⌜ now (marks .exit) ≡ compiledMarks (now (tape .entry)) (now (work .entry)) (now (marks .entry)) ⌝ }
+    ensures work { λ _. ⌜ now (work .exit) ≡ compiledWork (now (tape .entry)) (now (work .entry)) (now (marks .entry)) (now (ops .entry)) ⌝ }
+    ensures marks { λ _. ⌜ now (marks .exit) ≡ compiledMarks (now (tape .entry)) (now (work .entry)) (now (marks .entry)) (now (ops .entry)) ⌝ }
     ensures ops { λ _. ⌜ now (ops .exit) ≡ compiledOps (now (tape .entry)) (now (work .entry)) (now (marks .entry)) (now (ops .entry)) ⌝ }
 {
     let c = check_tape(tape);

@@ -1,7 +1,7 @@
 // The report and the answer.
 ghost use mathlib.Core.Path.{_≡_};
 ghost use Rattle.detect.specs.Report.{fractionOf, writtenCount, exactOf, reportOf};
-ghost use Rattle.detect.specs.Compile.{refusal};
+ghost use Rattle.detect.specs.Questions.{refusal};
 use crate::count::Counts;
 use order::Ordering;
 use tape::MAX_QUBITS;

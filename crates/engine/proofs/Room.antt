@@ -10,8 +10,9 @@ use borrow.Author.Tests.{leb-true}
 use Rattle.laws.proofs.Tests.{and-left, and-right}
 use Rattle.state.specs.Answers.{Told}
 use Rattle.detect.specs.declared.report.Compiled.{Compiled}
+use Rattle.detect.specs.Questions.{numberOf, placeOf}
 use Rattle.engine.specs.Answers.{noRoom, hasPlaces, Tells}
-use Rattle.engine.specs.Reports.{numberOf, placeOf, wordsWritten, measuresWritten, tablesWritten, hasReport, roomOf, Reports}
+use Rattle.engine.specs.Reports.{wordsWritten, measuresWritten, tablesWritten, hasReport, roomOf, Reports}
 
 -- ---- place and value
 

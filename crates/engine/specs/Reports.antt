@@ -13,20 +13,9 @@ use Rattle.order.specs.Slice.{flag}
 use Rattle.order.specs.declared.choice.Ordering.{Ordering}
 use Rattle.order.specs.declared.choice.Ordering.the-variants.{Identity, Paths, Greedy}
 use Rattle.detect.specs.declared.report.Report.{Report}
-use Rattle.detect.specs.declared.report.Answer.{Answer}
-use Rattle.detect.specs.declared.report.Answer.the-variants.{Done, Refused}
 use Rattle.detect.specs.declared.report.Compiled.{Compiled}
+use Rattle.detect.specs.Questions.{numberOf, placeOf}
 use Rattle.engine.specs.Answers.{noRoom}
-
--- ---- the answer
-
-abbrev pub numberOf : Answer → ℕ
-numberOf Done = 0
-numberOf (Refused number place) = number
-
-abbrev pub placeOf : Answer → ℕ
-placeOf Done = 0
-placeOf (Refused number place) = place
 
 -- ---- the report
 

@@ -4,11 +4,11 @@ ghost use mathlib.Core.Bool.{true, cond};
 ghost use lib.Dec.{leb};
 ghost use lib.ListN.{length};
 ghost use Rattle.tape.specs.Labels.{spanOf};
-ghost use Rattle.detect.specs.Compile.{compiled, compiledWork, compiledMarks, compiledOps};
+ghost use Rattle.detect.specs.Questions.{compiled, compiledWork, compiledMarks, compiledOps};
 ghost use Rattle.gaussian.specs.Run.{ran, ranWork, ranMarks, ranOps, ranState};
-ghost use Rattle.gaussian.specs.Claim.{RegisterClaim};
 ghost use Rattle.engine.specs.Answers.{noRoom, spanWritten};
 ghost use Rattle.engine.specs.Reports.{roomOf, Reports};
+ghost use Rattle.engine.specs.Claims.{leftIn, CallClaim};
 use crate::reports::has_report;
 use crate::reports::put_report;
 use crate::said::NO_ROOM;
@@ -46,10 +46,10 @@ pub extern "C" fn jozkeral_compile(
         (now (place .exit)) (now (report .exit)) (now (measures .exit)) (now (tables .exit)) ⌝ }
     ensures work { λ _. ⌜ now (work .exit) ≡ cond
         (roomOf (now (place .entry)) (now (report .entry)) (now (measures .entry)) (now (tables .entry)))
-        (compiledWork (now (tape .entry)) (now (work .entry)) (now (marks .entry))) (now (work .entry)) ⌝ }
+        (compiledWork (now (tape .entry)) (now (work .entry)) (now (marks .entry)) (now (ops .entry))) (now (work .entry)) ⌝ }
     ensures marks { λ _. ⌜ now (marks .exit) ≡ cond
         (roomOf (now (place .entry)) (now (report .entry)) (now (measures .entry)) (now (tables .entry)))
-        (compiledMarks (now (tape .entry)) (now (work .entry)) (now (marks .entry))) (now (marks .entry)) ⌝ }
+        (compiledMarks (now (tape .entry)) (now (work .entry)) (now (marks .entry)) (now (ops .entry))) (now (marks .entry)) ⌝ }
     ensures ops { λ _. ⌜ now (ops .exit) ≡ cond
         (roomOf (now (place .entry)) (now (report .entry)) (now (measures .entry)) (now (tables .entry)))
         (compiledOps (now (tape .entry)) (now (work .entry)) (now (marks .entry)) (now (ops .entry))) (now (ops .entry)) ⌝ }
@@ -79,19 +79,19 @@ pub extern "C" fn jozkeral_run(
         (now (place .exit)) (now (report .exit)) (now (measures .exit)) (now (tables .exit)) ⌝ }
     ensures work { λ _. ⌜ now (work .exit) ≡ cond
         (roomOf (now (place .entry)) (now (report .entry)) (now (measures .entry)) (now (tables .entry)))
-        (ranWork (now (tape .entry)) (now (work .entry)) (now (marks .entry))) (now (work .entry)) ⌝ }
+        (ranWork (now (tape .entry)) (now (work .entry)) (now (marks .entry)) (now (ops .entry)) (now (state .entry))) (now (work .entry)) ⌝ }
     ensures marks { λ _. ⌜ now (marks .exit) ≡ cond
         (roomOf (now (place .entry)) (now (report .entry)) (now (measures .entry)) (now (tables .entry)))
-        (ranMarks (now (tape .entry)) (now (work .entry)) (now (marks .entry))) (now (marks .entry)) ⌝ }
+        (ranMarks (now (tape .entry)) (now (work .entry)) (now (marks .entry)) (now (ops .entry)) (now (state .entry))) (now (marks .entry)) ⌝ }
     ensures ops { λ _. ⌜ now (ops .exit) ≡ cond
         (roomOf (now (place .entry)) (now (report .entry)) (now (measures .entry)) (now (tables .entry)))
         (ranOps (now (tape .entry)) (now (work .entry)) (now (marks .entry)) (now (ops .entry)) (now (state .entry))) (now (ops .entry)) ⌝ }
     ensures state { λ _. ⌜ now (state .exit) ≡ cond
         (roomOf (now (place .entry)) (now (report .entry)) (now (measures .entry)) (now (tables .entry)))
         (ranState (now (tape .entry)) (now (work .entry)) (now (marks .entry)) (now (ops .entry)) (now (state .entry))) (now (state .entry)) ⌝ }
-    ensures register { λ _. ⌜ (roomOf (now (place .entry)) (now (report .entry)) (now (measures .entry)) (now (tables .entry)) ≡ true
-        → RegisterClaim (now (tape .entry)) (now (work .entry)) (now (marks .entry)) (now (ops .entry)) (now (state .entry))
-        (ran (now (tape .entry)) (now (work .entry)) (now (marks .entry)) (now (ops .entry)) (now (state .entry))) (now (state .exit))) ⌝ }
+    ensures register { λ r. ⌜ CallClaim (now (tape .entry)) (now (work .entry)) (now (marks .entry)) (now (ops .entry)) (now (state .entry))
+        (roomOf (now (place .entry)) (now (report .entry)) (now (measures .entry)) (now (tables .entry)))
+        (leftIn r (now (report .exit)) (now (tables .exit)) (now (state .exit))) ⌝ }
 {
     if has_report(place.len(), report.len(), measures.len(), tables.len()) {
         let c = gaussian::run(tape, work, marks, ops, state);

@@ -1,16 +1,17 @@
--- What a run answers and leaves: from the check of a tape to its questions; and once the report is made, by the verdict: where that is yes, what is written
--- is the program, and so is what is run. Assumes nothing.
-use mathlib.Core.Path.{_≡_, sym, ap, ap₂, _∙_}
-use mathlib.Core.Bool.{true}
+-- What a run answers and leaves once the report is made, by the verdict: where that is yes, what is written is the program, and so is what is run; in any
+-- case work is zero. Assumes nothing.
+use mathlib.Core.Path.{_≡_, refl, sym, ap, ap₂, _∙_}
+use mathlib.Core.Bool.{Bool, true, false, cond}
 use mathlib.Core.List.{List}
 use Prim.Native.Nat.{ℕ, _+_, _*_, _≤_, _<_}
 use native.Mathlib.Omega.{arith}
+use lib.Dec.{ltb}
 use lib.ListN.{length}
 use lib.Ieee.{Float}
 use borrow.Author.Tests.{lt-ltb, le-ltb, eq-eqb}
+use Rattle.laws.specs.Slices.{filled}
 use Rattle.laws.specs.Bounds.{opPlaces}
-use Rattle.tape.specs.Parse.{Content, Parsed, refused, accepted, contentOf, checkedOf}
-use Rattle.tape.specs.declared.check.Checked.the-variants.{Good, Refused}
+use Rattle.tape.specs.Parse.{Content}
 use Rattle.tape.specs.declared.header.Header.{Header}
 use Rattle.detect.specs.declared.report.Report.{Report}
 use Rattle.detect.specs.Operation.{allPlaces, written}
@@ -18,51 +19,37 @@ use Rattle.detect.specs.Emit.{operationsIn}
 use Rattle.detect.specs.Report.{reportOf}
 use Rattle.detect.specs.Kept.{Kept}
 use Rattle.detect.specs.Compile.{tapeCounts, reportedOf, programOf}
+use Rattle.detect.specs.Questions.{late, passed, workAfter}
 use Rattle.detect.specs.Program.{Detected}
 use Rattle.detect.proofs.Placing.{length-placed}
 use Rattle.detect.proofs.Answering.{reported-free, reported-operations, emits-fit, writes}
-use Rattle.detect.proofs.Checking.{taken, refused-is}
+use Rattle.detect.proofs.Checking.{taken}
 use Rattle.local.specs.State.{stored, vacuum}
 use Rattle.state.specs.Bounds.{dimOf}
 use Rattle.evolve.specs.Evolve.{evolved, evolvedIn}
 use Rattle.evolve.proofs.Evolving.{evolved-written}
-use Rattle.gaussian.specs.Run.{verdictOf, askedReport, askedWork, askedOf}
+use Rattle.gaussian.specs.Run.{verdictOf, askedReport}
 use Rattle.gaussian.proofs.Verdicts.{Passes, verdict-passes}
-
--- ---- from the check of the tape
-
-module _ (p : Parsed) (w u o s : ℕ) where
-  pub asked-refused : (r i : ℕ) → checkedOf p ≡ Refused r i → askedOf p w u o s ≡ refused r i
-  unfolding askedOf
-  asked-refused r i e = ap (λ p. askedOf p w u o s) (refused-is p r i e)
-
-  pub asked-good : (h : Header) (g l : ℕ) → checkedOf p ≡ Good h g l → askedOf p w u o s ≡ askedWork h (contentOf p) g w u o s
-  unfolding checkedOf askedOf contentOf
-  asked-good h g l e = by p e
-    where
-      by : (p : Parsed) → checkedOf p ≡ Good h g l → askedOf p w u o s ≡ askedWork h (contentOf p) g w u o s
-      by (refused r i) e = absurd (let z : _≡_ {A = ℕ} 0 1 = cc in omega arith)
-      by (accepted k c) e =
-          let a : k ≡ h = cc in
-          let b : length (c .gates) ≡ g = cc in
-          ap₂ (λ h g. askedWork h c g w u o s) a b
 
 -- ---- by the verdict
 
 module _ (h : Header) (c : Content) (g : ℕ) (xs ys : List Float) (us vs : List ℕ) (r : Report) (d : Detected h (c .gates) g xs ys us vs r)
-    (o s q : ℕ) (e : q ≡ verdictOf h r o s) where
-  told : q ≡ verdictOf h (reportedOf h (c .gates)) o s
-  told = e ∙ ap (λ r. verdictOf h r o s) (d .report)
+    (o s q : ℕ) (e : q ≡ verdictOf h r (r .operations) o s) where
+  number : r .operations ≡ length (programOf h (c .gates))
+  number = ap (λ r. r .operations) (d .report) ∙ reported-operations h (c .gates)
 
-  pub told-no : 0 < q → askedReport h c o s ≡ refused q 0
+  told : q ≡ verdictOf h (reportedOf h (c .gates)) (length (programOf h (c .gates))) o s
+  told = e ∙ ap₂ (λ r k. verdictOf h r k o s) (d .report) number
+
+  pub told-no : 0 < q → askedReport o s h c ≡ late q h c
   told-no l = rw (← told, lt-ltb 0 q l)
 
   module _ (l : q ≤ 0) where
-    pub told-yes : askedReport h c o s ≡ accepted h c
+    pub told-yes : askedReport o s h c ≡ passed h c
     told-yes = rw (← told, le-ltb 0 q l)
 
-    pub passes : Passes h r o s
-    passes = verdict-passes h r o s (sym e ∙ omega (arith, l))
+    pub passes : Passes h r (r .operations) o s
+    passes = verdict-passes h r (r .operations) o s (sym e ∙ omega (arith, l))
 
     none-bad : r .bad ≡ 0 → reportedOf h (c .gates) .bad ≡ 0
     none-bad b = sym (ap (λ r. r .bad) (d .report)) ∙ b
@@ -70,9 +57,6 @@ module _ (h : Header) (c : Content) (g : ℕ) (xs ys : List Float) (us vs : List
     free : r .free ≡ true
     unfolding reportedOf reportOf
     free = ap (λ r. r .free) (d .report) ∙ reported-free h (c .gates) ∙ eq-eqb (tapeCounts h (c .gates) .bad) 0 (none-bad (passes .free))
-
-    number : r .operations ≡ length (programOf h (c .gates))
-    number = ap (λ r. r .operations) (d .report) ∙ reported-operations h (c .gates)
 
     pub emits-room : length (allPlaces (operationsIn ys vs (g + h .n))) ≤ o
     emits-room = emits-fit h (c .gates) g xs ys us vs r d o (passes .operations) free
@@ -97,3 +81,17 @@ module _ (h : Header) (c : Content) (g : ℕ) (xs ys : List Float) (us vs : List
     program-run ops ops′ state w =
         ap (λ t. stored (dimOf (h .n)) t state)
         (ap (λ l. evolvedIn (h .n) (r .operations) l vacuum) (w ∙ program-written ops) ∙ evolved-written (h .n) (r .operations) (programOf h (c .gates)) ops number)
+
+-- ---- work
+
+pub report-work : {A : Type 0} (k : ℕ → ℕ → ℕ) (v : A) (o s : ℕ) (h : Header) (c : Content) (l : List A)
+    → workAfter k v (askedReport o s h c) l ≡ filled (k (length (c .gates)) (h .n)) v l
+unfolding workAfter
+report-work k v o s h c l = by (ltb 0 verdict)
+  where
+    verdict : ℕ
+    verdict = verdictOf h (reportedOf h (c .gates)) (length (programOf h (c .gates))) o s
+
+    by : (b : Bool) → workAfter k v (cond b (late verdict h c) (passed h c)) l ≡ filled (k (length (c .gates)) (h .n)) v l
+    by true = refl
+    by false = refl

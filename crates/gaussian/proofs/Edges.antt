@@ -19,7 +19,7 @@ use Rattle.tape.specs.Header.{headerAt, isTolerance, headerMarked, headerOf}
 use Rattle.tape.specs.Codes.{qubitsOf, floatsOf, gateLength}
 use Rattle.tape.specs.Records.{markedAt, qubitsBelow, qubitsDiffer, entriesSmall, gateFault, sound, gateRecordAt, recordAt}
 use Rattle.tape.specs.Gates.{matrix1At, matrix2At, gateAt}
-use Rattle.tape.specs.Parse.{Content, accepted, nothing, withGate, stepped, walk, afterHeader, parse, contentOf}
+use Rattle.tape.specs.Parse.{Content, accepted, nothing, withGate, stepped, walk, afterHeader, parse}
 use Rattle.tape.specs.declared.header.Header.{Header}
 use Rattle.tape.specs.declared.gates.Gate.{Gate}
 use Rattle.tape.specs.declared.gates.Gate.the-variants.{One, Two}
@@ -33,19 +33,19 @@ use Rattle.detect.specs.declared.report.Report.{Report}
 use Rattle.detect.specs.declared.report.Compiled.{Compiled}
 use Rattle.detect.specs.Report.{reportOf}
 use Rattle.detect.specs.Compile.{labelsOf, itemsOf, orderOf, tapeCounts, reportedOf}
+use Rattle.detect.specs.Questions.{numberOf}
 use Rattle.detect.proofs.Reports.{blocks-add, blocks-items, no-blocks as fraction-one}
 use Rattle.detect.proofs.Edges.{Reporting, edges}
 use Rattle.state.specs.Answers as Answers
 use Rattle.state.specs.Calls.{expectationZOf}
-use Rattle.register.specs.Register.{RegisterTape, RegisterGate, registerFrom, registerBits}
-use Rattle.register.specs.Follows.{PlainGate}
+use Rattle.register.specs.Register.{RegisterTape, RegisterGate, PlainGate, registerFrom, registerBits}
 use Rattle.register.proofs.Tapes.{good-gates}
 use Rattle.basis.specs.Answers.{oddOnes, registerProduct}
 use Rattle.claim.proofs.Plain.{plain-free}
 use Rattle.gaussian.specs.Run.{dropsOf, interacts, bytesOf, ran, ranState}
-use Rattle.gaussian.specs.Claim.{Accepted, Suffice}
+use Rattle.gaussian.specs.Claim.{Suffice}
 use Rattle.gaussian.proofs.Claim.{register-claim}
-use Rattle.gaussian.proofs.Expectation.{zAfter, register-tape, run-qubits, z-told}
+use Rattle.gaussian.proofs.Expectation.{Accepted, zAfter, register-tape, run-qubits, z-told}
 use Rattle.gaussian.proofs.Rows.{Says, yes, eleven, thirteen, fourteen, Row, Roomy, numbered, row-run, row-answer}
 
 -- ---- the tables
@@ -107,13 +107,13 @@ Seen r s (fraction x) = r .fraction ≡ x
 
 -- ---- what the tapes are parsed to
 
-abbrev headed : ℕ → ℕ → ℕ → Header
+abbrev pub headed : ℕ → ℕ → ℕ → Header
 headed n flags limit = record { n = n; flags = flags; tolerance = f0; limit = limit }
 
-abbrev only : Gate → Content
+abbrev pub only : Gate → Content
 only g = record { gates = g ∷ []; places = headerLength ∷ []; labels = [] }
 
-abbrev xOn0 : Gate
+abbrev pub xOn0 : Gate
 xOn0 = One 0x02 0 gateX
 
 abbrev czOn01 : Gate
@@ -122,7 +122,7 @@ czOn01 = Two 0x11 0 1 gateCz
 abbrev iswapOn02 : Gate
 iswapOn02 = Two 0x13 0 2 gateISwap
 
-parses : (parse (tape 2 0 128 0 []) ≡ accepted (headed 2 0 128) nothing)
+pub parses : (parse (tape 2 0 128 0 []) ≡ accepted (headed 2 0 128) nothing)
     × (parse (tape 2 0 127 0 []) ≡ accepted (headed 2 0 127) nothing)
     × (parse (tape 2 0 128 0 x0) ≡ accepted (headed 2 0 128) (only xOn0))
     × (parse (tape 2 0 127 0 x0) ≡ accepted (headed 2 0 127) (only xOn0))
@@ -190,13 +190,13 @@ iswap-row-11 =
 -- ---- rows of plain register tapes: no bad blocks, no interactions
 
 -- only I, X, Y, Z, S, Sdg, ISwap and ISwapdg, on neighbours
-abbrev PlainRegister : List Gate → Type 0
+abbrev pub PlainRegister : List Gate → Type 0
 PlainRegister gs = (g : Gate) → List·Memᴰ g gs → RegisterGate g × PlainGate g
 
-no-gate : PlainRegister []
+pub no-gate : PlainRegister []
 no-gate g i = absurd (List·Memᴰ·not-nil i)
 
-one-x : (m : Mat2) → PlainRegister (One 0x02 0 m ∷ [])
+pub one-x : (m : Mat2) → PlainRegister (One 0x02 0 m ∷ [])
 one-x m g i = let e : g ≡ One 0x02 0 m = List·Memᴰ·eq-of-singleton i in rw e (tt, tt)
 
 no-items : (k : ℕ) → length (itemsOf (headed 2 0 k) [] .items) ≤ 1
@@ -208,7 +208,7 @@ unfolding itemsOf labelsOf labelled unlabelled fuseOf resolvedOf fused compresse
 one-item k = omega arith
 
 module _ (t : List ℕ) (h : Header) (c : Content) (e : parse t ≡ accepted h c) (all : PlainRegister (c .gates)) where
-  plain-register : RegisterTape t
+  pub plain-register : RegisterTape t
   plain-register = register-tape t h c e (λ g i. all g i .0)
 
   module _ (qubits : h .n ≤ 3) (gates : length (c .gates) ≤ 1) (items : length (itemsOf h (c .gates) .items) ≤ 1) where
@@ -278,15 +278,14 @@ module _ (t : List ℕ) (h : Header) (c : Content) (m : Mat2) (e : parse t ≡ a
   all = rw x (one-x m)
 
   -- where slices and limit suffice
-  pub x-accepted : Suffice h (c .gates) (length work) (length marks) (length ops) (length state) → Accepted (ran t work marks ops state)
+  pub x-accepted : Suffice h (c .gates) (length work) (length marks) (length ops) (length state) → Accepted t work marks ops state
   x-accepted = register-claim t work marks ops state .accepts h c e (plain-register t h c e all) (λ g i. all g i .1)
 
-  pub x-turns : Accepted (ran t work marks ops state) → zAfter t work marks ops state 0 ≡ Answers.accepted f-1
-  unfolding registerBits registerFrom oddOnes contentOf ofBits neg
+  pub x-turns : Accepted t work marks ops state → zAfter t work marks ops state 0 ≡ Answers.accepted f-1
+  unfolding registerBits registerFrom oddOnes ofBits neg
   x-turns a =
       let some : 0 < h .n = good-gates t h c e (One 0x02 0 m) (rw x (List·Memᴰ·head refl)) .below in
-      z-told t work marks ops state a (plain-register t h c e all) 0 (rw (run-qubits t work marks ops state a h c e) some)
-      ∙ ap (λ p. Answers.accepted (registerProduct (registerBits (contentOf p .gates)) (0 ∷ []))) e
+      z-told t work marks ops state a (plain-register t h c e all) 0 (rw (run-qubits t work marks ops state a h c e) some) h c e
       ∙ ap (λ gs. Answers.accepted (registerProduct (registerBits gs) (0 ∷ []))) x
 
 -- ---- what every row shows
@@ -300,7 +299,7 @@ pub shown : {t : List ℕ} {x : Shown} → Shows t x → (work : List Float) (ma
 shown cz-modes work marks ops state roomy = ordered work marks ops state roomy cz-row (edges .2)
 shown iswap-order work marks ops state roomy = ordered work marks ops state roomy iswap-row (edges .0)
 shown x-parity work marks ops state roomy =
-    x-turns (tape 2 0 128 0 x0) (headed 2 0 128) (only xOn0) gateX (parses .2) refl work marks ops state (edge work marks ops state roomy x-128)
+    x-turns (tape 2 0 128 0 x0) (headed 2 0 128) (only xOn0) gateX (parses .2) refl work marks ops state (ap numberOf (edge work marks ops state roomy x-128))
 shown no-blocks work marks ops state roomy =
     ap (λ (c : Compiled). c .report .fraction) (row-run empty-row work marks ops state roomy)
     ∙ fraction-one (headed 2 0 128) [] blocks-none

@@ -18,11 +18,13 @@ use Rattle.detect.specs.declared.report.Report.{Report}
 use Rattle.detect.specs.declared.report.Answer.{Answer}
 use Rattle.detect.specs.declared.report.Compiled.{Compiled}
 use Rattle.detect.specs.Report.{freeOf, reportOf}
-use Rattle.detect.specs.Compile.{itemsOf, modeOfWire, tapeCounts, reportedOf, workFloats, workMarks, hasWork, refusal, done}
+use Rattle.detect.specs.Compile.{itemsOf, modeOfWire, tapeCounts, reportedOf, programOf}
+use Rattle.detect.specs.Questions.{refusal, done, answerOf, workFloats, workMarks, hasWork, askedFrom}
 use Rattle.detect.proofs.Sums.{counts-add}
+use Rattle.detect.proofs.Reports.{operations-told}
 use Rattle.local.specs.Bounds.{statePlaces}
 use Rattle.state.specs.Bounds.{dimOf}
-use Rattle.gaussian.specs.Run.{allApart, interacts, bytesOf, verdictOf, judged, askedOf, answerOf, ran}
+use Rattle.gaussian.specs.Run.{allApart, interacts, bytesOf, verdictOf, judged, askedReport, ran}
 use Rattle.gaussian.proofs.Verdicts.{passes-verdict}
 
 -- ---- the questions 11 to 14
@@ -34,18 +36,18 @@ pub data Says (h : Header) (r : Report) : ℕ → Type 0 where
   thirteen : r .bad ≡ 0 → interacts h r ≡ true → Says h r 13
   fourteen : r .bad ≡ 0 → interacts h r ≡ false → h .limit < bytesOf (h .n) → Says h r 14
 
-module _ (h : Header) (r : Report) (o s : ℕ) (ten : opPlaces * r .operations ≤ o) (fifteen : statePlaces (dimOf (h .n)) ≤ s) where
-  says-verdict : {k : ℕ} → Says h r k → verdictOf h r o s ≡ k
+module _ (h : Header) (r : Report) (n o s : ℕ) (ten : opPlaces * n ≤ o) (fifteen : statePlaces (dimOf (h .n)) ≤ s) where
+  says-verdict : {k : ℕ} → Says h r k → verdictOf h r n o s ≡ k
   unfolding verdictOf allApart
   says-verdict (yes free calm limit) =
-      passes-verdict h r o s (record { operations = ten; free = free; interactions = calm; limit = limit; state = fifteen })
+      passes-verdict h r n o s (record { operations = ten; free = free; interactions = calm; limit = limit; state = fifteen })
   says-verdict (eleven some apart) =
-      rw (le-ltb o (opPlaces * r .operations) ten, ne-eqb (r .bad) 0 (λ e. omega arith), eq-eqb (r .nonadjacent) (r .bad) apart)
+      rw (le-ltb o (opPlaces * n) ten, ne-eqb (r .bad) 0 (λ e. omega arith), eq-eqb (r .nonadjacent) (r .bad) apart)
   says-verdict (thirteen free some) =
-      rw (le-ltb o (opPlaces * r .operations) ten, eq-eqb (r .bad) 0 free, le-ltb 0 (r .bad) (omega arith), some)
+      rw (le-ltb o (opPlaces * n) ten, eq-eqb (r .bad) 0 free, le-ltb 0 (r .bad) (omega arith), some)
   says-verdict (fourteen free calm limit) =
       rw (
-        le-ltb o (opPlaces * r .operations) ten,
+        le-ltb o (opPlaces * n) ten,
         eq-eqb (r .bad) 0 free,
         le-ltb 0 (r .bad) (omega arith),
         calm,
@@ -103,14 +105,20 @@ module _ {t : List ℕ} {k : ℕ} {r : Report} (x : Row t k r) (work : List Floa
         le-ltb (length marks) (workMarks (length (x .content .gates)) (x .header .n)) (omega (arith, roomy .numbers, x .gates, x .qubits)),
       )
 
-  ten : opPlaces * r .operations ≤ length ops
-  ten = let few = rw (x .reported) at (operations-few (x .header) (x .content .gates)) in omega (arith, few, x .blocks, roomy .operations)
+  abbrev program : ℕ
+  program = length (programOf (x .header) (x .content .gates))
+
+  ten : opPlaces * program ≤ length ops
+  ten =
+      let few = operations-few (x .header) (x .content .gates) in
+      let one = ap (λ (r : Report). r .blocks) (x .reported) in
+      omega (arith, few, operations-told (x .header) (x .content .gates), one, x .blocks, roomy .operations)
 
   fifteen : statePlaces (dimOf (x .header .n)) ≤ length state
   fifteen = omega (arith, places-few (x .header .n) (x .qubits), roomy .places)
 
-  verdict : verdictOf (x .header) r (length ops) (length state) ≡ k
-  verdict = says-verdict (x .header) r (length ops) (length state) ten fifteen (x .says)
+  verdict : verdictOf (x .header) r program (length ops) (length state) ≡ k
+  verdict = says-verdict (x .header) r program (length ops) (length state) ten fifteen (x .says)
 
   judge : (b : Bool) → ltb 0 k ≡ b → answerOf (judged k (x .header) (x .content)) ≡ answered k r
   unfolding answerOf
@@ -118,9 +126,9 @@ module _ {t : List ℕ} {k : ℕ} {r : Report} (x : Row t k r) (work : List Floa
   judge false e = rw e (ap done (x .reported))
 
   pub row-run : ran t work marks ops state ≡ answered k r
-  unfolding askedOf
+  unfolding askedFrom
   row-run =
-      ap (λ p. answerOf (askedOf p (length work) (length marks) (length ops) (length state))) (x .parsed)
+      ap (λ p. answerOf (askedFrom (askedReport (length ops) (length state)) p (length work) (length marks))) (x .parsed)
       ∙ rw (nine, x .reported, verdict) (judge (ltb 0 k) refl)
 
   pub row-answer : ran t work marks ops state .answer ≡ numbered k

@@ -1,18 +1,18 @@
--- Public `run` (001, `from_circuit`): the questions 1 to 15 in their order, then the report, the operations, and the state that they make of the vacuum.
--- Definitions only.
+-- Public `run` (001, `from_circuit`): its questions 1 to 15 in their order are one value, `asked`, from which the answer and every slice follow: the
+-- report, the operations, and the state that they make of the vacuum. Definitions only.
 use mathlib.Core.Bool.{Bool, not, cond}
 use mathlib.Core.List.{List}
 use Prim.Native.Nat.{ℕ, _*_, _/_, _%_}
 use lib.Dec.{eqb, ltb}
 use lib.ListN.{length}
 use lib.Ieee.{Float}
-use Rattle.laws.specs.Bounds.{opPlaces}
-use Rattle.tape.specs.Parse.{Parsed, Content, refused, accepted, parse, contentOf}
+use Rattle.gate.specs.Complex.{f0}
+use Rattle.tape.specs.Parse.{Content, parse, contentOf}
 use Rattle.tape.specs.declared.header.Header.{Header}
 use Rattle.detect.specs.declared.report.Report.{Report}
 use Rattle.detect.specs.declared.report.Compiled.{Compiled}
-use Rattle.detect.specs.Operation.{written}
-use Rattle.detect.specs.Compile.{hasWork, reportedOf, programOf, refusal, done, compiledWork, compiledMarks}
+use Rattle.detect.specs.Compile.{reportedOf, programOf}
+use Rattle.detect.specs.Questions.{Asked, early, late, passed, answerOf, workAfter, opsAfter, workFloats, workMarks, askedNine, askedFrom, opsLack}
 use Rattle.local.specs.Bounds.{statePlaces}
 use Rattle.local.specs.State.{stored}
 use Rattle.state.specs.Bounds.{dimOf}
@@ -36,11 +36,11 @@ interacts h r = cond (eqb (r .interactions) 0) Bool.false (not (dropsOf h))
 abbrev pub bytesOf : ℕ → ℕ
 bytesOf n = 8 * (dimOf n * dimOf n)
 
--- the first of 10 to 15 whose answer is no, or 0; o places are there for the operations, s for the state
-unfoldable pub verdictOf : Header → Report → ℕ → ℕ → ℕ
-verdictOf h r o s =
+-- the first of 10 to 15 whose answer is no, or 0; k operations are to be written, o places are there for them, s for the state
+unfoldable pub verdictOf : Header → Report → ℕ → ℕ → ℕ → ℕ
+verdictOf h r k o s =
     -- "Has the operation slice 18 places per operation?"
-    cond (ltb o (opPlaces * r .operations)) 10
+    cond (opsLack o k) 10
     -- "Is it untrue that bad blocks exist and all are nonadjacent matchgates?"
     (cond (allApart r) 11
     -- "Are there no bad blocks?"
@@ -52,64 +52,46 @@ verdictOf h r o s =
     -- "Has the state slice 4n²+2n places?"
     (cond (ltb s (statePlaces (dimOf (h .n)))) 15 0)))))
 
--- ---- all questions: the tape as it was parsed, or the first question whose answer is no
+-- ---- all questions; 1 to 9 are asked as `compile` asks them
+
+abbrev pub judged : ℕ → Header → Content → Asked
+judged verdict h c = cond (ltb 0 verdict) (late verdict h c) (passed h c)
 
 -- 10 to 15
-abbrev pub judged : ℕ → Header → Content → Parsed
-judged verdict h c = cond (ltb 0 verdict) (refused verdict 0) (accepted h c)
+abbrev pub askedReport : ℕ → ℕ → Header → Content → Asked
+askedReport o s h c = judged (verdictOf h (reportedOf h (c .gates)) (length (programOf h (c .gates))) o s) h c
 
-abbrev pub askedReport : Header → Content → ℕ → ℕ → Parsed
-askedReport h c o s = judged (verdictOf h (reportedOf h (c .gates)) o s) h c
+-- ---- the state afterwards: "no slice changes, except work"
 
--- 9 to 15, of g gates; w and u places are there for the floats and the marks
-abbrev pub askedWork : Header → Content → ℕ → ℕ → ℕ → ℕ → ℕ → Parsed
-askedWork h c g w u o s = cond (hasWork g (h .n) w u) (askedReport h c o s) (refused 9 0)
-
--- 1 to 15
-unfoldable pub askedOf : Parsed → ℕ → ℕ → ℕ → ℕ → Parsed
-askedOf (refused number place) w u o s = refused number place
-askedOf (accepted h c) w u o s = askedWork h c (length (c .gates)) w u o s
-
--- ---- what is answered and left in the slices
-
--- "A refusal's numbers are zero"
-unfoldable pub answerOf : Parsed → Compiled
-answerOf (refused number place) = refusal number place
-answerOf (accepted h c) = done (reportedOf h (c .gates))
-
--- "and no slice changes, except work"
-unfoldable pub opsAfter : Parsed → List Float → List Float
-opsAfter (refused number place) ops = ops
-opsAfter (accepted h c) ops = written (programOf h (c .gates)) ops
-
-unfoldable pub stateAfter : Parsed → List Float → List Float
-stateAfter (refused number place) state = state
-stateAfter (accepted h c) state = stored (dimOf (h .n)) (evolved (h .n) (programOf h (c .gates))) state
+unfoldable pub stateAfter : Asked → List Float → List Float
+stateAfter (early number place) state = state
+stateAfter (late number h c) state = state
+stateAfter (passed h c) state = stored (dimOf (h .n)) (evolved (h .n) (programOf h (c .gates))) state
 
 -- ---- of the tape's bytes and the lent slices
 
 -- the questions from 10 on, from 9 on, and all
-abbrev pub reportAsked : List ℕ → Header → List Float → List Float → Parsed
-reportAsked t h ops state = askedReport h (contentOf (parse t)) (length ops) (length state)
+abbrev pub reportAsked : List ℕ → Header → List Float → List Float → Asked
+reportAsked t h ops state = askedReport (length ops) (length state) h (contentOf (parse t))
 
-abbrev pub workAsked : List ℕ → Header → ℕ → List Float → List ℕ → List Float → List Float → Parsed
-workAsked t h g work marks ops state = askedWork h (contentOf (parse t)) g (length work) (length marks) (length ops) (length state)
+abbrev pub workAsked : List ℕ → Header → ℕ → List Float → List ℕ → List Float → List Float → Asked
+workAsked t h g work marks ops state =
+    askedNine (askedReport (length ops) (length state)) h (contentOf (parse t)) g (length work) (length marks)
 
-abbrev pub asked : List ℕ → List Float → List ℕ → List Float → List Float → Parsed
-asked t work marks ops state = askedOf (parse t) (length work) (length marks) (length ops) (length state)
+abbrev pub asked : List ℕ → List Float → List ℕ → List Float → List Float → Asked
+asked t work marks ops state = askedFrom (askedReport (length ops) (length state)) (parse t) (length work) (length marks)
 
 -- the answer
 abbrev pub ran : List ℕ → List Float → List ℕ → List Float → List Float → Compiled
 ran t work marks ops state = answerOf (asked t work marks ops state)
 
--- the floats and the marks afterwards, as `compile` leaves them: "From here on" (9) "those places are zero after every answer"
-abbrev pub ranWork : List ℕ → List Float → List ℕ → List Float
-ranWork t work marks = compiledWork t work marks
+-- the floats, the marks, the operations and the state afterwards
+abbrev pub ranWork : List ℕ → List Float → List ℕ → List Float → List Float → List Float
+ranWork t work marks ops state = workAfter workFloats f0 (asked t work marks ops state) work
 
-abbrev pub ranMarks : List ℕ → List Float → List ℕ → List ℕ
-ranMarks t work marks = compiledMarks t work marks
+abbrev pub ranMarks : List ℕ → List Float → List ℕ → List Float → List Float → List ℕ
+ranMarks t work marks ops state = workAfter workMarks 0 (asked t work marks ops state) marks
 
--- the operations and the state afterwards
 abbrev pub ranOps : List ℕ → List Float → List ℕ → List Float → List Float → List Float
 ranOps t work marks ops state = opsAfter (asked t work marks ops state) ops
 

@@ -7,10 +7,11 @@ ghost use Rattle.laws.specs.Bounds.{maxQubits};
 ghost use Rattle.gate.specs.Complex.{f0};
 ghost use Rattle.tape.specs.Bounds.{maxGates};
 ghost use Rattle.fuse.specs.Slotted.{Gates};
-ghost use Rattle.detect.specs.Compile.{workFloats, workMarks, checkedLent, Lent};
-ghost use Rattle.gaussian.specs.Run.{answerOf, opsAfter, stateAfter, reportAsked, workAsked};
+ghost use Rattle.detect.specs.Questions.{answerOf, workAfter, opsAfter, workFloats, workMarks, Lent};
+ghost use Rattle.claim.specs.Queries.{answer};
+ghost use Rattle.gaussian.specs.Run.{stateAfter, reportAsked, workAsked};
 ghost use Rattle.gaussian.specs.Run.{ran, ranWork, ranMarks, ranOps, ranState};
-ghost use Rattle.gaussian.specs.Claim.{RegisterClaim};
+ghost use Rattle.gaussian.specs.Claim.{leftBy, RegisterClaim};
 use crate::questions::verdict;
 use detect::Answer;
 use detect::Compiled;
@@ -71,10 +72,14 @@ fn run_checked(
 ) -> Compiled
     requires { ⌜ Gates (now tape) g (h .n) × (h .n ≤ maxQubits) × (g ≤ maxGates) ⌝ }
     ensures answer { λ r. ⌜ r ≡ answerOf (workAsked (now (tape .entry)) h g (now (work .entry)) (now (marks .entry)) (now (ops .entry)) (now (state .entry))) ⌝ }
-    ensures work { λ _. ⌜ now (work .exit) ≡ checkedLent g (h .n) (length (now (work .entry))) (length (now (marks .entry))) workFloats f0 (now (work .entry)) ⌝ }
-    ensures marks { λ _. ⌜ now (marks .exit) ≡ checkedLent g (h .n) (length (now (work .entry))) (length (now (marks .entry))) workMarks 0 (now (marks .entry)) ⌝ }
-    ensures ops { λ _. ⌜ now (ops .exit) ≡ opsAfter (workAsked (now (tape .entry)) h g (now (work .entry)) (now (marks .entry)) (now (ops .entry)) (now (state .entry))) (now (ops .entry)) ⌝ }
-    ensures state { λ _. ⌜ now (state .exit) ≡ stateAfter (workAsked (now (tape .entry)) h g (now (work .entry)) (now (marks .entry)) (now (ops .entry)) (now (state .entry))) (now (state .entry)) ⌝ }
+    ensures work { λ _. ⌜ now (work .exit) ≡ workAfter workFloats f0
+        (workAsked (now (tape .entry)) h g (now (work .entry)) (now (marks .entry)) (now (ops .entry)) (now (state .entry))) (now (work .entry)) ⌝ }
+    ensures marks { λ _. ⌜ now (marks .exit) ≡ workAfter workMarks 0
+        (workAsked (now (tape .entry)) h g (now (work .entry)) (now (marks .entry)) (now (ops .entry)) (now (state .entry))) (now (marks .entry)) ⌝ }
+    ensures ops { λ _. ⌜ now (ops .exit) ≡ opsAfter
+        (workAsked (now (tape .entry)) h g (now (work .entry)) (now (marks .entry)) (now (ops .entry)) (now (state .entry))) (now (ops .entry)) ⌝ }
+    ensures state { λ _. ⌜ now (state .exit) ≡ stateAfter
+        (workAsked (now (tape .entry)) h g (now (work .entry)) (now (marks .entry)) (now (ops .entry)) (now (state .entry))) (now (state .entry)) ⌝ }
 {
     let n = h.n;
     let floats = 64 * (g + n);
@@ -106,11 +111,12 @@ pub fn run(
     state: &mut [f64],
 ) -> Compiled
     ensures answer { λ r. ⌜ r ≡ ran (now (tape .entry)) (now (work .entry)) (now (marks .entry)) (now (ops .entry)) (now (state .entry)) ⌝ }
-    ensures work { λ _. ⌜ now (work .exit) ≡ ranWork (now (tape .entry)) (now (work .entry)) (now (marks .entry)) ⌝ }
-    ensures marks { λ _. ⌜ now (marks .exit) ≡ ranMarks (now (tape .entry)) (now (work .entry)) (now (marks .entry)) ⌝ }
+    ensures work { λ _. ⌜ now (work .exit) ≡ ranWork (now (tape .entry)) (now (work .entry)) (now (marks .entry)) (now (ops .entry)) (now (state .entry)) ⌝ }
+    ensures marks { λ _. ⌜ now (marks .exit) ≡ ranMarks (now (tape .entry)) (now (work .entry)) (now (marks .entry)) (now (ops .entry)) (now (state .entry)) ⌝ }
     ensures ops { λ _. ⌜ now (ops .exit) ≡ ranOps (now (tape .entry)) (now (work .entry)) (now (marks .entry)) (now (ops .entry)) (now (state .entry)) ⌝ }
     ensures state { λ _. ⌜ now (state .exit) ≡ ranState (now (tape .entry)) (now (work .entry)) (now (marks .entry)) (now (ops .entry)) (now (state .entry)) ⌝ }
-    ensures register { λ r. ⌜ RegisterClaim (now (tape .entry)) (now (work .entry)) (now (marks .entry)) (now (ops .entry)) (now (state .entry)) r (now (state .exit)) ⌝ }
+    ensures register { λ r. ⌜ RegisterClaim answer (now (tape .entry)) (now (work .entry)) (now (marks .entry)) (now (ops .entry)) (now (state .entry))
+        (leftBy r (now (state .exit))) ⌝ }
 {
     let c = check_tape(tape);
     match c {

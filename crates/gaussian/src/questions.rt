@@ -30,7 +30,7 @@ fn interacting(h: Header, r: Report) -> bool
 // The first of 10 to 15 whose answer is no, or 0. There are `ops` places for the operations, `state` for the state.
 pub fn verdict(h: Header, r: Report, ops: usize, state: usize) -> u32
     requires { ⌜ h .n ≤ maxQubits ⌝ }
-    ensures { λ x. ⌜ x ≡ verdictOf h r ops state ⌝ }
+    ensures { λ x. ⌜ x ≡ verdictOf h r (r .operations) ops state ⌝ }
 {
     let dim = 2 * h.n;
     if ops < OP_PLACES * (r.operations as usize) {

@@ -1,6 +1,6 @@
 -- The run of a tape that is not too big: slices with room for 32 gates and 8 qubits suffice, so questions 9, 10 and 15 are answered with yes, and the
 -- text is that of the run's answer, report and state. Assumes nothing.
-use mathlib.Core.Path.{_≡_, refl, ap, subst}
+use mathlib.Core.Path.{_≡_, refl, sym, ap, subst}
 use mathlib.Core.Bool.{Bool, true, false, cond, _||_}
 use Prim.Native.Nat.{ℕ, _+_, _*_, _≤_}
 use native.Mathlib.Nat.{le-refl, mul-le-mul}
@@ -15,10 +15,12 @@ use Rattle.tape.specs.declared.header.Header.{Header}
 use Rattle.detect.specs.declared.report.Report.{Report}
 use Rattle.detect.specs.declared.report.Answer.the-variants.{Done, Refused}
 use Rattle.detect.specs.Report.{reportOf, noReport}
-use Rattle.detect.specs.Compile.{workFloats, workMarks, hasWork, reportedOf}
+use Rattle.detect.specs.Compile.{reportedOf, programOf}
+use Rattle.detect.specs.Questions.{Asked, early, late, passed, answerOf, workFloats, workMarks, hasWork, askedFrom}
+use Rattle.detect.proofs.Reports.{operations-told}
 use Rattle.local.specs.Bounds.{statePlaces}
 use Rattle.state.specs.Bounds.{dimOf}
-use Rattle.gaussian.specs.Run.{verdictOf, judged, askedOf, answerOf, stateAfter}
+use Rattle.gaussian.specs.Run.{verdictOf, judged, askedReport, stateAfter}
 use Rattle.text.specs.Bounds.{printedGates, printedQubits}
 use Rattle.text.specs.Lines.{refusedLine}
 use Rattle.text.specs.Print.{isLarge, runOf, doneText, textOf}
@@ -55,13 +57,13 @@ sizes h c e =
     (ltb-false printedGates (length (c .gates)) (b .0), ltb-false printedQubits (h .n) (b .1))
 
 -- a verdict does not turn on the places, where there are enough
-same-verdict : (h : Header) (r : Report) (o o′ s s′ : ℕ) → opPlaces * r .operations ≤ o → opPlaces * r .operations ≤ o′
-    → statePlaces (dimOf (h .n)) ≤ s → statePlaces (dimOf (h .n)) ≤ s′ → verdictOf h r o s ≡ verdictOf h r o′ s′
+same-verdict : (h : Header) (r : Report) (k o o′ s s′ : ℕ) → opPlaces * k ≤ o → opPlaces * k ≤ o′
+    → statePlaces (dimOf (h .n)) ≤ s → statePlaces (dimOf (h .n)) ≤ s′ → verdictOf h r k o s ≡ verdictOf h r k o′ s′
 unfolding verdictOf
-same-verdict h r o o′ s s′ ho ho′ hs hs′ =
+same-verdict h r k o o′ s s′ ho ho′ hs hs′ =
     rw (
-      le-ltb o (opPlaces * r .operations) ho,
-      le-ltb o′ (opPlaces * r .operations) ho′,
+      le-ltb o (opPlaces * k) ho,
+      le-ltb o′ (opPlaces * k) ho′,
       le-ltb s (statePlaces (dimOf (h .n))) hs,
       le-ltb s′ (statePlaces (dimOf (h .n))) hs′,
     )
@@ -74,38 +76,40 @@ enough-state n h =
     let d : dimOf n ≤ 16 = omega arith in
     omega (arith, mul-le-mul d d)
 
-pub suffices : (p : Parsed) → isLarge p ≡ false → askedOf p floats marks places states ≡ runOf p
-unfolding askedOf runOf
+pub suffices : (p : Parsed) → isLarge p ≡ false → askedFrom (askedReport places states) p floats marks ≡ runOf p
+unfolding askedFrom runOf
 suffices (refused r q) e = refl
 suffices (accepted h c) e =
     let few = sizes h c e in
-    let r : Report = reportedOf h (c .gates) in
-    let ops : opPlaces * r .operations ≤ places = omega (arith, operations-few h (c .gates), few .0, few .1) in
+    let k : ℕ = length (programOf h (c .gates)) in
+    let ops : opPlaces * k ≤ places = omega (arith, operations-few h (c .gates), operations-told h (c .gates), few .0, few .1) in
     rw (enough-work (length (c .gates)) (h .n) (few .0) (few .1))
     (ap (λ v. judged v h c)
-    (same-verdict h r places (opPlaces * r .operations) states (statePlaces (dimOf (h .n)))
+    (same-verdict h (reportedOf h (c .gates)) k places (opPlaces * k) states (statePlaces (dimOf (h .n)))
     ops (le-refl _) (enough-state (h .n) (few .1)) (le-refl _)))
 
 -- ---- the text, by the answer
 
-pub refused-text : (p : Parsed) (number place : ℕ) → answerOf p .answer ≡ Refused number place → textOf p ≡ refusedLine number place
+done≢refused : (number place : ℕ) → Done ≡ Refused number place → ⊥
+done≢refused number place e = let z : _≡_ {A = ℕ} 0 1 = cc in omega arith
+
+pub refused-text : (x : Asked) (number place : ℕ) → answerOf x .answer ≡ Refused number place → textOf x ≡ refusedLine number place
 unfolding answerOf textOf
-refused-text (refused r q) number place e =
+refused-text (early r q) number place e =
     let a : r ≡ number = cc in
     let b : q ≡ place = cc in
     rw (a, b)
-refused-text (accepted h c) number place e = absurd (no e)
-  where
-    no : Done ≡ Refused number place → ⊥
-    no e = let z : _≡_ {A = ℕ} 0 1 = cc in omega arith
+refused-text (late r h c) number place e =
+    let a : r ≡ number = cc in
+    let b : 0 ≡ place = cc in
+    rw (a, b)
+refused-text (passed h c) number place e = absurd (done≢refused number place e)
 
-pub done-text : (p : Parsed) → answerOf p .answer ≡ Done → textOf p ≡ doneText (answerOf p .report) (stateAfter p (replicate states +0))
+pub done-text : (x : Asked) → answerOf x .answer ≡ Done → textOf x ≡ doneText (answerOf x .report) (stateAfter x (replicate states +0))
 unfolding answerOf textOf stateAfter
-done-text (refused r q) e = absurd (no e)
-  where
-    no : Refused r q ≡ Done → ⊥
-    no e = let z : _≡_ {A = ℕ} 0 1 = cc in omega arith
-done-text (accepted h c) e = refl
+done-text (early r q) e = absurd (done≢refused r q (sym e))
+done-text (late r h c) e = absurd (done≢refused r 0 (sym e))
+done-text (passed h c) e = refl
 
 pub few-qubits : (p : Parsed) → isLarge p ≡ false → answerOf (runOf p) .report .n ≤ printedQubits
 unfolding answerOf runOf noReport reportedOf reportOf
@@ -113,8 +117,10 @@ few-qubits (refused r q) e = omega arith
 few-qubits (accepted h c) e = by (ltb 0 v)
   where
     v : ℕ
-    v = verdictOf h (reportedOf h (c .gates)) (opPlaces * reportedOf h (c .gates) .operations) (statePlaces (dimOf (h .n)))
+    v =
+        verdictOf h (reportedOf h (c .gates)) (length (programOf h (c .gates))) (opPlaces * length (programOf h (c .gates)))
+        (statePlaces (dimOf (h .n)))
 
-    by : (t : Bool) → answerOf (cond t (refused v 0) (accepted h c)) .report .n ≤ printedQubits
+    by : (t : Bool) → answerOf (cond t (late v h c) (passed h c)) .report .n ≤ printedQubits
     by true = omega arith
     by false = sizes h c e .1

@@ -11,6 +11,7 @@ use Rattle.tape.specs.Parse.{Parsed, Content, refused, accepted, parse}
 use Rattle.tape.specs.declared.header.Header.{Header}
 use Rattle.detect.specs.declared.report.Report.{Report}
 use Rattle.detect.specs.Compile.{reportedOf, programOf}
+use Rattle.detect.specs.Questions.{Asked, early, late, passed}
 use Rattle.local.specs.Bounds.{statePlaces}
 use Rattle.local.specs.State.{stored}
 use Rattle.state.specs.Bounds.{dimOf}
@@ -33,10 +34,10 @@ isTooBig t = ltb maxTape (length t) || isLarge (parse t)
 
 -- ---- the run
 
--- the tape, or the first question whose answer is no; with slices as long as 9, 10 and 15 ask
-unfoldable pub runOf : Parsed → Parsed
-runOf (refused number place) = refused number place
-runOf (accepted h c) = askedReport h c (opPlaces * reportedOf h (c .gates) .operations) (statePlaces (dimOf (h .n)))
+-- what its questions come to, with slices as long as 9, 10 and 15 ask
+unfoldable pub runOf : Parsed → Asked
+runOf (refused number place) = early number place
+runOf (accepted h c) = askedReport (opPlaces * length (programOf h (c .gates))) (statePlaces (dimOf (h .n))) h c
 
 -- the state that it leaves, in a slice with room for 8 qubits
 abbrev pub stateOf : Header → Content → List Float
@@ -55,9 +56,10 @@ doneText r state =
     ++ orderLine (r .ordering) (r .order) (r .n)
     ++ zLines (zAt (r .n) state (r .modes)) (r .n)
 
-unfoldable pub textOf : Parsed → List ℕ
-textOf (refused number place) = refusedLine number place
-textOf (accepted h c) = doneText (reportedOf h (c .gates)) (stateOf h c)
+unfoldable pub textOf : Asked → List ℕ
+textOf (early number place) = refusedLine number place
+textOf (late number h c) = refusedLine number 0
+textOf (passed h c) = doneText (reportedOf h (c .gates)) (stateOf h c)
 
 unfoldable pub printed : List ℕ → List ℕ
 printed t = cond (isTooBig t) tooBigLine (textOf (runOf (parse t)))

@@ -1,13 +1,13 @@
 -- `detect::questions::compile` meets its contract: the questions 1 to 8, then those of a tape that passes them. Assumes nothing.
-use mathlib.Core.Path.{sym, _∙_}
+use mathlib.Core.Path.{sym, ap, _∙_}
 use borrow.Author.Needs.{needs}
 use lib.ListN.{length}
 use Rattle.gate.specs.Complex.{f0}
 use Rattle.tape.specs.Parse.{parse}
 use Rattle.tape.proofs.CursorLaws.{checked-passed}
 use Rattle.tape.proofs.GoodLaws.{gates-good, gates-few}
-use Rattle.detect.specs.Compile.{workFloats, workMarks}
-use Rattle.detect.proofs.Checking.{refused-answer, refused-work, refused-ops, good-answer, good-work, good-ops}
+use Rattle.detect.specs.Questions.{answerOf, workAfter, opsAfter, workFloats, workMarks, askedTen}
+use Rattle.detect.proofs.Checking.{asked-refused, asked-good}
 use Rattle.detect.proofs.questions.compile.Statement.{statement}
 use Rattle.detect.proofs.questions.compile.Tie as tie
 
@@ -23,16 +23,16 @@ compile-checked-requires c κs =
     )
 
 returns : tie.Need-returns
+unfolding answerOf workAfter opsAfter
 returns c =
     let m = c .before .before in
     let a = m .before .before .before .before .before .before .before .args in
     let e = sym (m .before .before .check-tape .ensures) ∙ m .c .given .1 in
-    let w = length (a .work .now) in
-    let u = length (a .marks .now) in (
-      c .refuse .ensures ∙ sym (refused-answer (parse (a .tape .now)) _ _ e w u (length (a .ops .now))),
+    let no = asked-refused (parse (a .tape .now)) _ _ e (askedTen (length (a .ops .now))) (length (a .work .now)) (length (a .marks .now)) in (
+      c .refuse .ensures ∙ sym (ap answerOf no),
       (
-        sym (refused-work (parse (a .tape .now)) _ _ e w u workFloats f0 (a .work .now)),
-        (sym (refused-work (parse (a .tape .now)) _ _ e w u workMarks 0 (a .marks .now)), sym (refused-ops (parse (a .tape .now)) _ _ e w u (a .ops .now))),
+        sym (ap (λ x. workAfter workFloats f0 x (a .work .now)) no),
+        (sym (ap (λ x. workAfter workMarks 0 x (a .marks .now)) no), sym (ap (λ x. opsAfter x (a .ops .now)) no)),
       ),
     )
 
@@ -42,14 +42,13 @@ returns-2 c =
     let m = f .before .before .before .before .before in
     let a = m .before .before .before .before .before .before .before .args in
     let e = sym (m .before .before .check-tape .ensures) ∙ m .c2 .given .1 in
-    let w = length (a .work .now) in
-    let u = length (a .marks .now) in (
-      f .compile-checked .ensures .0 ∙ sym (good-answer (parse (a .tape .now)) _ _ _ e w u (length (a .ops .now))),
+    let good = asked-good (parse (a .tape .now)) _ _ _ e (askedTen (length (a .ops .now))) (length (a .work .now)) (length (a .marks .now)) in (
+      f .compile-checked .ensures .0 ∙ sym (ap answerOf good),
       (
-        f .compile-checked .ensures .1 .0 ∙ sym (good-work (parse (a .tape .now)) _ _ _ e w u workFloats f0 (a .work .now)),
+        f .compile-checked .ensures .1 .0 ∙ sym (ap (λ x. workAfter workFloats f0 x (a .work .now)) good),
         (
-          f .compile-checked .ensures .1 .1 .0 ∙ sym (good-work (parse (a .tape .now)) _ _ _ e w u workMarks 0 (a .marks .now)),
-          f .compile-checked .ensures .1 .1 .1 ∙ sym (good-ops (parse (a .tape .now)) _ _ _ e w u (a .ops .now)),
+          f .compile-checked .ensures .1 .1 .0 ∙ sym (ap (λ x. workAfter workMarks 0 x (a .marks .now)) good),
+          f .compile-checked .ensures .1 .1 .1 ∙ sym (ap (λ x. opsAfter x (a .ops .now)) good),
         ),
       ),
     )

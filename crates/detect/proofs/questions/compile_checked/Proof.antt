@@ -1,25 +1,39 @@
 -- `detect::questions::compile_checked` meets its contract: question 9, and the parts that it names made zero. Assumes nothing.
-use mathlib.Core.Path.{sym, _∙_}
+use mathlib.Core.Path.{sym, ap, _∙_}
 use Prim.Native.Nat.{_+_, _*_}
 use native.Mathlib.Omega.{arith}
 use borrow.Author.Needs.{needs}
 use lib.ListN.{length}
 use Rattle.gate.specs.Complex.{f0}
-use Rattle.detect.proofs.Checking.{taken, left, has-work, no-floats, no-marks, front-length, front-filled}
+use Rattle.tape.specs.Parse.{parse, contentOf}
+use Rattle.detect.specs.Questions.{early, answerOf, workAfter, opsAfter, workFloats, workMarks, askedTen}
+use Rattle.detect.proofs.Checking.{taken, left, has-work, no-floats, no-marks, front-length, front-filled, ten-work, nine-work}
 use Rattle.detect.proofs.questions.compile_checked.Statement.{statement}
 use Rattle.detect.proofs.questions.compile_checked.Tie as tie
 
 returns : tie.Need-returns
+unfolding answerOf workAfter opsAfter
 returns c =
     let a = c .before .before .before .before .before .before .args in
-    let none = no-floats (a .g) (a .h .n) (length (a .work .now)) (length (a .marks .now)) (c .before .if1 .taken) in
-    (c .refuse .ensures ∙ sym (left _ _ _ none), (sym (left _ _ _ none), (sym (left _ _ _ none), sym (left _ _ _ none))))
+    let none = no-floats (a .g) (a .h .n) (length (a .work .now)) (length (a .marks .now)) (c .before .if1 .taken) in (
+      c .refuse .ensures ∙ sym (ap answerOf (left _ _ _ none)),
+      (
+        sym (ap (λ x. workAfter workFloats f0 x (a .work .now)) (left _ _ _ none)),
+        (sym (ap (λ x. workAfter workMarks 0 x (a .marks .now)) (left _ _ _ none)), sym (ap (λ x. opsAfter x (a .ops .now)) (left _ _ _ none))),
+      ),
+    )
 
 returns-2 : tie.Need-returns-2
+unfolding answerOf workAfter opsAfter
 returns-2 c =
     let a = c .before .before .before .before .before .before .before .args in
-    let none = no-marks (a .g) (a .h .n) (length (a .work .now)) (length (a .marks .now)) (c .before .before .if1 .left) (c .before .if2 .taken) in
-    (c .refuse2 .ensures ∙ sym (left _ _ _ none), (sym (left _ _ _ none), (sym (left _ _ _ none), sym (left _ _ _ none))))
+    let none = no-marks (a .g) (a .h .n) (length (a .work .now)) (length (a .marks .now)) (c .before .before .if1 .left) (c .before .if2 .taken) in (
+      c .refuse2 .ensures ∙ sym (ap answerOf (left _ _ _ none)),
+      (
+        sym (ap (λ x. workAfter workFloats f0 x (a .work .now)) (left _ _ _ none)),
+        (sym (ap (λ x. workAfter workMarks 0 x (a .marks .now)) (left _ _ _ none)), sym (ap (λ x. opsAfter x (a .ops .now)) (left _ _ _ none))),
+      ),
+    )
 
 compile-in-requires : tie.Need-compile-in-requires
 compile-in-requires c κs =
@@ -39,13 +53,20 @@ returns-3 c =
     let e = c .before .before .before .before .before .before .before .before .before .before in
     let s = c .before .before .before .before .before .before .before .before .before .before .before .before .before .before .before .before in
     let a = s .args in
-    let some = has-work (a .g) (a .h .n) (length (a .work .now)) (length (a .marks .now)) (e .before .if1 .left) (e .if2 .left) in (
-      f .compile-in .ensures .0 ∙ sym (taken _ _ _ some),
+    let k = contentOf (parse (a .tape .now)) in
+    let next = askedTen (length (a .ops .now)) in
+    let w = length (a .work .now) in
+    let u = length (a .marks .now) in
+    let some = has-work (a .g) (a .h .n) w u (e .before .if1 .left) (e .if2 .left) in
+    let yes = taken _ (next (a .h) k) (early 9 0) some in (
+      f .compile-in .ensures .0 ∙ sym (ap answerOf yes),
       (
-        front-filled (64 * (a .g + a .h .n)) f0 (a .work .now) (f .compile-in .last .1 .1 .1 .0) (e .before .if1 .left) (f .compile-in .ensures .1 .0) ∙ sym (taken _ _ _ some),
+        front-filled (64 * (a .g + a .h .n)) f0 (a .work .now) (f .compile-in .last .1 .1 .1 .0) (e .before .if1 .left) (f .compile-in .ensures .1 .0)
+            ∙ nine-work workFloats f0 next (a .h) k (a .g) w u (a .work .now) some (s .pre .0 .count) (ten-work workFloats f0 _ (a .h) k (a .work .now)),
         (
-          front-filled (32 * (a .g + a .h .n)) 0 (a .marks .now) (f .compile-in .last .1 .1 .1 .1 .0) (e .if2 .left) (f .compile-in .ensures .1 .1 .0) ∙ sym (taken _ _ _ some),
-          f .compile-in .ensures .1 .1 .1 ∙ sym (taken _ _ _ some),
+          front-filled (32 * (a .g + a .h .n)) 0 (a .marks .now) (f .compile-in .last .1 .1 .1 .1 .0) (e .if2 .left) (f .compile-in .ensures .1 .1 .0)
+              ∙ nine-work workMarks 0 next (a .h) k (a .g) w u (a .marks .now) some (s .pre .0 .count) (ten-work workMarks 0 _ (a .h) k (a .marks .now)),
+          f .compile-in .ensures .1 .1 .1 ∙ sym (ap (λ x. opsAfter x (a .ops .now)) yes),
         ),
       ),
     )

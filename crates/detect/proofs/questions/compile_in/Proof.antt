@@ -5,9 +5,9 @@ use borrow.Author.Needs.{needs}
 use lib.ListN.{length}
 use lib.Ieee.{nan}
 use Rattle.gate.specs.Complex.{f0}
-use Rattle.tape.specs.Parse.{gatesOf}
-use Rattle.detect.specs.Compile.{programOf, reportedOf, done}
-use Rattle.detect.proofs.Answering.{filled-whole, answer-short, answer-long, written-short, written-long, too-short, long-enough, emits-fit, writes}
+use Rattle.tape.specs.Parse.{parse, contentOf}
+use Rattle.detect.specs.Questions.{done, answerOf, opsAfter}
+use Rattle.detect.proofs.Answering.{filled-whole, ten-short, ten-long, too-short, long-enough, emits-fit, writes}
 use Rattle.detect.proofs.questions.compile_in.Statement.{statement}
 use Rattle.detect.proofs.questions.compile_in.Tie as tie
 
@@ -18,20 +18,23 @@ detect-requires c κs =
     (h .0, record { floats = omega (arith, h .3); marks = omega (arith, h .4); few = omega (arith, h .1, h .2) }, h .1)
 
 returns : tie.Need-returns
+unfolding answerOf opsAfter
 returns c =
     let t = c .before .before .before .before .before .before .before .before .before in
     let d = t .before .before .before .before .before .before in
     let s = d .before .before .before .before .before .before .before in
     let a = s .args in
-    let gs = gatesOf (a .tape .now) in
+    let k = contentOf (parse (a .tape .now)) in
+    let gs = k .gates in
     let p = d .detect .ensures in
-    let short = too-short (a .h) gs (a .g) (a .w .now) (d .detect .last .1 .1 .1 .0) (a .u .now) (d .detect .last .1 .1 .1 .1 .0) (d .detect .result) p (length (a .ops .now)) (t .if1 .taken) in (
-      c .refuse .ensures ∙ sym (answer-short (programOf (a .h) gs) (length (a .ops .now)) (reportedOf (a .h) gs) short),
+    let short = too-short (a .h) gs (a .g) (a .w .now) (d .detect .last .1 .1 .1 .0) (a .u .now) (d .detect .last .1 .1 .1 .1 .0) (d .detect .result) p (length (a .ops .now)) (t .if1 .taken) in
+    let no = ten-short (a .h) k (length (a .ops .now)) short in (
+      c .refuse .ensures ∙ sym (ap answerOf no),
       (
         c .before .before .before .before .before .before .before .clear-floats .ensures ∙ filled-whole f0 nan (a .w .now) (d .detect .last .1 .1 .1 .0) (p .size),
         (
           c .before .before .before .clear-marks .ensures ∙ filled-whole 0 0 (a .u .now) (d .detect .last .1 .1 .1 .1 .0) (p .marks),
-          sym (written-short (programOf (a .h) gs) (a .ops .now) short),
+          sym (ap (λ x. opsAfter x (a .ops .now)) no),
         ),
       ),
     )
@@ -49,26 +52,29 @@ emit-requires c κs =
     let a = s .args in
     let p = d .detect .ensures in (
       (p .held, p .kept),
-      emits-fit (a .h) (gatesOf (a .tape .now)) (a .g) (a .w .now) (d .detect .last .1 .1 .1 .0) (a .u .now) (d .detect .last .1 .1 .1 .1 .0) (d .detect .result) p (length (a .ops .now)) (e .if1 .left),
+      emits-fit (a .h) (contentOf (parse (a .tape .now)) .gates) (a .g) (a .w .now) (d .detect .last .1 .1 .1 .0) (a .u .now) (d .detect .last .1 .1 .1 .1 .0) (d .detect .result) p (length (a .ops .now)) (e .if1 .left),
     )
 
 returns-2 : tie.Need-returns-2
+unfolding answerOf opsAfter
 returns-2 c =
     let e = c .before .before .before .before .before .before .before .before .before .before .before .before .before .before in
     let d = e .before .before .before .before .before .before in
     let s = d .before .before .before .before .before .before .before in
     let a = s .args in
-    let gs = gatesOf (a .tape .now) in
+    let k = contentOf (parse (a .tape .now)) in
+    let gs = k .gates in
     let p = d .detect .ensures in
-    let long = long-enough (a .h) gs (a .g) (a .w .now) (d .detect .last .1 .1 .1 .0) (a .u .now) (d .detect .last .1 .1 .1 .1 .0) (d .detect .result) p (length (a .ops .now)) (e .if1 .left) in (
-      ap done (p .report) ∙ sym (answer-long (programOf (a .h) gs) (length (a .ops .now)) (reportedOf (a .h) gs) long),
+    let long = long-enough (a .h) gs (a .g) (a .w .now) (d .detect .last .1 .1 .1 .0) (a .u .now) (d .detect .last .1 .1 .1 .1 .0) (d .detect .result) p (length (a .ops .now)) (e .if1 .left) in
+    let yes = ten-long (a .h) k (length (a .ops .now)) long in (
+      ap done (p .report) ∙ sym (ap answerOf yes),
       (
         c .before .before .before .before .before .before .clear-floats2 .ensures ∙ filled-whole f0 nan (a .w .now) (d .detect .last .1 .1 .1 .0) (p .size),
         (
           c .before .before .clear-marks2 .ensures ∙ filled-whole 0 0 (a .u .now) (d .detect .last .1 .1 .1 .1 .0) (p .marks),
           c .before .before .before .before .before .before .before .before .before .before .emit .ensures
               ∙ writes (a .h) gs (a .g) (a .w .now) (d .detect .last .1 .1 .1 .0) (a .u .now) (d .detect .last .1 .1 .1 .1 .0) (d .detect .result) p (a .ops .now)
-              ∙ sym (written-long (programOf (a .h) gs) (a .ops .now) long),
+              ∙ sym (ap (λ x. opsAfter x (a .ops .now)) yes),
         ),
       ),
     )

@@ -3,6 +3,7 @@ use mathlib.Core.Path.{sym, _∙_}
 use borrow.Author.Needs.{needs}
 use Rattle.order.proofs.Covers.{never}
 use Rattle.engine.proofs.Room.{reports-none}
+use Rattle.engine.proofs.Claims.{claim-told}
 use Rattle.engine.proofs.tapes.jozkeral_run.Statement.{statement}
 use Rattle.engine.proofs.tapes.jozkeral_run.Tie as tie
 
@@ -19,13 +20,17 @@ returns c =
     let t = q .before .before .before .before .before in
     let room = sym (t .before .has-report .ensures) ∙ t .if1 .taken in
     let answer = q .run .ensures .0 in
-    let slices = q .run .ensures .1 in (
-      rw answer at (a .put-report .ensures),
+    let slices = q .run .ensures .1 in
+    let tells = a .put-report .ensures in (
+      rw answer at tells,
       (
         rw room (slices .0),
         (
           rw room (slices .1 .0),
-          (rw room (slices .1 .1 .0), (rw room (slices .1 .1 .1 .0), λ h. rw answer at (slices .1 .1 .1 .1))),
+          (
+            rw room (slices .1 .1 .0),
+            (rw room (slices .1 .1 .1 .0), claim-told _ _ _ _ _ _ _ _ _ _ _ _ _ _ _ _ tells (λ h. slices .1 .1 .1 .1)),
+          ),
         ),
       ),
     )
@@ -33,7 +38,8 @@ returns c =
 returns-2 : tie.Need-returns-2
 returns-2 c =
     let short = sym (c .before .has-report .ensures) ∙ c .if1 .left in
-    (reports-none _ _ _ _ _ short, (rw short, (rw short, (rw short, (rw short, λ h. absurd (never (sym short ∙ h)))))))
+    let tells = reports-none _ _ _ _ _ short in
+    (tells, (rw short, (rw short, (rw short, (rw short, claim-told _ _ _ _ _ _ _ _ _ _ _ _ _ _ _ _ tells (λ h. absurd (never (sym short ∙ h))))))))
 
 pub jozkeral-run-spec : {M : Type 1} → statement M
 jozkeral-run-spec =

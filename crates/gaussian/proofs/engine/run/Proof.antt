@@ -6,10 +6,9 @@ use Rattle.gate.specs.Complex.{f0}
 use Rattle.tape.specs.Parse.{parse}
 use Rattle.tape.proofs.CursorLaws.{checked-passed}
 use Rattle.tape.proofs.GoodLaws.{gates-good, gates-few}
-use Rattle.detect.specs.Compile.{workFloats, workMarks}
-use Rattle.detect.proofs.Checking.{refused-work, good-work}
-use Rattle.gaussian.specs.Run.{answerOf, opsAfter, stateAfter}
-use Rattle.gaussian.proofs.Answering.{asked-refused, asked-good}
+use Rattle.detect.specs.Questions.{answerOf, workAfter, opsAfter, workFloats, workMarks}
+use Rattle.detect.proofs.Checking.{asked-refused, asked-good}
+use Rattle.gaussian.specs.Run.{stateAfter, askedReport}
 use Rattle.gaussian.proofs.Claim.{claim-of}
 use Rattle.gaussian.proofs.engine.run.Statement.{statement}
 use Rattle.gaussian.proofs.engine.run.Tie as tie
@@ -26,22 +25,20 @@ run-checked-requires c κs =
     )
 
 returns : tie.Need-returns
-unfolding answerOf opsAfter stateAfter
+unfolding answerOf workAfter opsAfter stateAfter
 returns c =
     let m = c .before .before in
     let a = m .before .before .before .before .before .before .before .before .args in
-    let p = parse (a .tape .now) in
     let e = sym (m .before .before .check-tape .ensures) ∙ m .c .given .1 in
-    let w = length (a .work .now) in
-    let u = length (a .marks .now) in
-    let no = asked-refused p w u (length (a .ops .now)) (length (a .state .now)) _ _ e in
+    let next = askedReport (length (a .ops .now)) (length (a .state .now)) in
+    let no = asked-refused (parse (a .tape .now)) _ _ e next (length (a .work .now)) (length (a .marks .now)) in
     let answer = c .refuse .ensures ∙ sym (ap answerOf no) in
     let state = sym (ap (λ x. stateAfter x (a .state .now)) no) in (
       answer,
       (
-        sym (refused-work p _ _ e w u workFloats f0 (a .work .now)),
+        sym (ap (λ x. workAfter workFloats f0 x (a .work .now)) no),
         (
-          sym (refused-work p _ _ e w u workMarks 0 (a .marks .now)),
+          sym (ap (λ x. workAfter workMarks 0 x (a .marks .now)) no),
           (
             sym (ap (λ x. opsAfter x (a .ops .now)) no),
             (state, claim-of (a .tape .now) (a .work .now) (a .marks .now) (a .ops .now) (a .state .now) _ _ answer state),
@@ -55,18 +52,16 @@ returns-2 c =
     let f = c .before .before .before .before .before .before .before .before in
     let m = f .before .before .before .before .before .before in
     let a = m .before .before .before .before .before .before .before .before .args in
-    let p = parse (a .tape .now) in
     let e = sym (m .before .before .check-tape .ensures) ∙ m .c2 .given .1 in
-    let w = length (a .work .now) in
-    let u = length (a .marks .now) in
-    let good = asked-good p w u (length (a .ops .now)) (length (a .state .now)) _ _ _ e in
+    let next = askedReport (length (a .ops .now)) (length (a .state .now)) in
+    let good = asked-good (parse (a .tape .now)) _ _ _ e next (length (a .work .now)) (length (a .marks .now)) in
     let answer = f .run-checked .ensures .0 ∙ sym (ap answerOf good) in
     let state = f .run-checked .ensures .1 .1 .1 .1 ∙ sym (ap (λ x. stateAfter x (a .state .now)) good) in (
       answer,
       (
-        f .run-checked .ensures .1 .0 ∙ sym (good-work p _ _ _ e w u workFloats f0 (a .work .now)),
+        f .run-checked .ensures .1 .0 ∙ sym (ap (λ x. workAfter workFloats f0 x (a .work .now)) good),
         (
-          f .run-checked .ensures .1 .1 .0 ∙ sym (good-work p _ _ _ e w u workMarks 0 (a .marks .now)),
+          f .run-checked .ensures .1 .1 .0 ∙ sym (ap (λ x. workAfter workMarks 0 x (a .marks .now)) good),
           (
             f .run-checked .ensures .1 .1 .1 .0 ∙ sym (ap (λ x. opsAfter x (a .ops .now)) good),
             (state, claim-of (a .tape .now) (a .work .now) (a .marks .now) (a .ops .now) (a .state .now) _ _ answer state),

@@ -6,9 +6,9 @@ use lib.ListN.{length}
 use lib.Ieee.{nan}
 use Rattle.gate.specs.Complex.{f0}
 use Rattle.tape.specs.Parse.{contentOf, parse}
-use Rattle.detect.specs.Compile.{done}
+use Rattle.detect.specs.Questions.{done, answerOf, opsAfter}
 use Rattle.detect.proofs.Answering.{filled-whole}
-use Rattle.gaussian.specs.Run.{answerOf, opsAfter, stateAfter}
+use Rattle.gaussian.specs.Run.{stateAfter}
 use Rattle.gaussian.proofs.Answering.{told-no, told-yes, passes, emits-kept, emits-room, runs-room, program-written, program-run}
 use Rattle.gaussian.proofs.engine.run_in.Statement.{statement}
 use Rattle.gaussian.proofs.engine.run_in.Tie as tie

@@ -10,7 +10,8 @@ use lib.Ieee.{ofBits}
 use Rattle.laws.specs.Zeros.{+0}
 use lib.ListN.{length, replicate}
 use Rattle.tape.specs.Parse.{parse}
-use Rattle.gaussian.specs.Run.{answerOf, stateAfter}
+use Rattle.detect.specs.Questions.{answerOf}
+use Rattle.gaussian.specs.Run.{stateAfter}
 use Rattle.text.specs.Bounds.{maxTape}
 use Rattle.text.specs.Ascii.{ascii}
 use Rattle.text.specs.Lines.{refusedLine, tooBigLine}
