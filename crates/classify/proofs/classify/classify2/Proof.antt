@@ -1,5 +1,6 @@
 -- `classify::classify::classify2` meets its contract: each way out has the tests that the definition has on the way there.
 -- Assumes nothing.
+use mathlib.Core.Path.{refl}
 use Rattle.classify.specs.Classify.{classify2Of}
 use Rattle.classify.proofs.classify.classify2.Statement.{statement}
 use Rattle.classify.proofs.classify.classify2.Tie as tie
@@ -18,6 +19,7 @@ returns-2 c =
       ← c .before .residual2 .ensures,
       c .if2 .taken,
     )
+    refl
 
 returns-3 : tie.Need-returns-3
 unfolding classify2Of
