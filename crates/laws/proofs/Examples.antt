@@ -8,7 +8,7 @@ use native.Mathlib.Omega.{arith}
 use lib.Dec.{eqb, lit<, lit≤}
 use lib.IntN.{pos, negsuc, natAbs}
 use lib.ListN.{getD}
-use lib.Ieee.{Float, nan, inf, fin, binary64, add, mul, div, neg, ofBits}
+use lib.Ieee.{Float, nan, fin, binary64, add, mul, div, neg, ofBits}
 use Rattle.laws.specs.Views.{upFrom, listOf, downTo, between, until, from, seek, gap}
 use Rattle.laws.specs.Slices.{onPart, turns, mappedTo, filled, stores, putRow, traded}
 use Rattle.laws.specs.Tables.{update, exchange}
@@ -130,13 +130,6 @@ minus-zero-bits = refl
 
 zeros-alike : nz -0 ≡ nz +0
 zeros-alike = refl
-
--- only zeros lose their sign
-others-not : nz -1 ≡ -1
-others-not = refl
-
-infinities-not : nz (inf true) ≡ inf true
-infinities-not = refl
 
 -- a sum starts at 0.0: so it is no -0.0
 from-zero : dot (λ j. +1) (λ j. -0) 1 ≡ +0

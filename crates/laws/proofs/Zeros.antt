@@ -24,6 +24,14 @@ pub one-bits : ofBits binary64 0x3ff0_0000_0000_0000 ≡ +1
 unfolding ofBits
 one-bits = refl
 
+-- ---- only zeros lose their sign
+
+minus-one-not : nz (fin true 1 (pos 0)) ≡ fin true 1 (pos 0)
+minus-one-not = refl
+
+infinities-not : nz (inf true) ≡ inf true
+infinities-not = refl
+
 pub nz-nz : (x : Float) → nz (nz x) ≡ nz x
 nz-nz nan = refl
 nz-nz (inf s) = refl
