@@ -3,6 +3,7 @@
 use mathlib.Core.Path.{_≡_, refl, sym, ap, ap₂, _∙_}
 use mathlib.Core.List.{List, [], _∷_, _++_, append-assoc}
 use Prim.Native.Nat.{ℕ, zero, suc, _+_, _*_, _≤_}
+use native.Mathlib.Numerals.{add-one}
 use native.Mathlib.Omega.{arith}
 use lib.ListN.{length, take, drop}
 use lib.Seq.{take-at, drop-at, drop-drop}
@@ -60,11 +61,12 @@ stored-long dim t s₀ s room e = stored-is dim s₀ t s room e .long
 
 -- a turn of the loop
 pub evolve-more : (n k : ℕ) (l s₀ s : List Float) → statePlaces (dimOf n) ≤ length s₀ → s ≡ stored (dimOf n) (evolvedIn n k l vacuum) s₀
-    → decodedState n s (decodeOf n (take opPlaces (drop (opPlaces * k) l))) ≡ stored (dimOf n) (evolvedIn n (suc k) l vacuum) s₀
+    → decodedState n s (decodeOf n (take opPlaces (drop (opPlaces * k) l))) ≡ stored (dimOf n) (evolvedIn n (k + 1) l vacuum) s₀
 evolve-more n k l s₀ s room e =
     let places = take opPlaces (drop (opPlaces * k) l) in
-    decoded-more n (decodeOf n places) (evolvedIn n k l vacuum) s₀ s room (λ o g. decode-fits n places o g) e
-    ∙ ap (λ t. stored (dimOf n) t s₀) (sym (evolved-more n k l vacuum))
+    rw add-one
+    (decoded-more n (decodeOf n places) (evolvedIn n k l vacuum) s₀ s room (λ o g. decode-fits n places o g) e
+    ∙ ap (λ t. stored (dimOf n) t s₀) (sym (evolved-more n k l vacuum)))
 
 -- ---- operations in front of a slice
 

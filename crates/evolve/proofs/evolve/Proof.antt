@@ -3,7 +3,6 @@ use mathlib.Core.Path.{_≡_, refl, sym, ap, _∙_}
 use mathlib.Core.List.{List}
 use Prim.Native.Nat.{ℕ, _+_, _*_, _-_, _≤_, _<_}
 use native.Mathlib.Nat.{add-zero, add-sub-cancel-left, le-of-eq}
-use native.Mathlib.Numerals.{add-one}
 use native.Mathlib.Omega.{arith}
 use borrow.Author.Needs.{needs}
 use lib.ListN.{length, getD, take, drop}
@@ -21,7 +20,7 @@ use Rattle.evolve.proofs.evolve.Tie as tie
 
 abbrev Inv-loop : tie.InvT-loop
 Inv-loop n count ops state₀ i₀ state i =
-    (i ≤ count) × (statePlaces (dimOf n) ≤ length state₀) × (state ≡ stored (dimOf n) (evolvedIn n i ops vacuum) state₀)
+    (state ≡ stored (dimOf n) (evolvedIn n i ops vacuum) state₀) × (i ≤ count) × (statePlaces (dimOf n) ≤ length state₀)
 
 abbrev μ-loop : tie.MeasureT-loop
 μ-loop n count ops state₀ i₀ state i = count - i
@@ -33,9 +32,9 @@ loop-holds c =
     let a = s .args in
     let v = c .before .before .vacuum in
     let long = stored-long (dimOf (a .n)) vacuum (a .state .now) (v .last .1 .0) (s .pre .0 .room) (v .ensures) in (
+      stored-again (dimOf (a .n)) vacuum (a .state .now) (v .last .1 .0) (s .pre .0 .room) (v .ensures),
       omega arith,
       omega (arith, long, s .pre .0 .room),
-      stored-again (dimOf (a .n)) vacuum (a .state .now) (v .last .1 .0) (s .pre .0 .room) (v .ensures),
     )
 
 -- a place of an operation's part is one of the program
@@ -49,7 +48,7 @@ apply-places-requires c κs =
     let s = k .before .before .before .before .before .before .before in
     let p = 18 * l .i in
     let fit : p + 18 ≤ length (s .args .ops .now) = omega (arith, c .before .before .before .before .loop-test .taken, s .pre .1) in (
-      record { room = omega (arith, stored-long (dimOf (s .args .n)) _ _ (l .state) (l .inv .1) (l .inv .2), l .inv .1) },
+      record { room = omega (arith, stored-long (dimOf (s .args .n)) _ _ (l .state) (l .inv .2) (l .inv .0), l .inv .2) },
       record {
         room = le-of-eq (sym (part-length p 18 (s .args .ops .now) fit));
         first = head p (s .args .ops .now) 0 (omega arith) p (sym (add-zero p));
@@ -65,9 +64,9 @@ loop-again c =
     let s₀ = k .before .before .before .vacuum .last .1 .0 in
     let p = 18 * l .i in
     let part = ap (λ m. decodedState (a .n) (l .state) (decodeOf (a .n) (take m (drop p (a .ops .now))))) (add-sub-cancel-left p 18) in (
+      c .before .before .apply-places .ensures .1 ∙ part ∙ evolve-more (a .n) (l .i) (a .ops .now) s₀ (l .state) (l .inv .2) (l .inv .0),
       search needs,
-      l .inv .1,
-      rw add-one (c .before .before .apply-places .ensures .1 ∙ part ∙ evolve-more (a .n) (l .i) (a .ops .now) s₀ (l .state) (l .inv .1) (l .inv .2)),
+      l .inv .2,
     )
 
 same-length : tie.Need-same-length Inv-loop μ-loop
@@ -75,7 +74,7 @@ same-length c =
     let l = c .before .loop in
     let s = c .before .before .before .before .before .before .before .before in
     let v = c .before .before .before .before .vacuum in
-    stored-long (dimOf (s .args .n)) _ (v .last .1 .0) (l .state) (l .inv .1) (l .inv .2)
+    stored-long (dimOf (s .args .n)) _ (v .last .1 .0) (l .state) (l .inv .2) (l .inv .0)
     ∙ stored-long (dimOf (s .args .n)) vacuum (s .args .state .now) (v .last .1 .0) (s .pre .0 .room) (v .ensures)
 
 returns : tie.Need-returns Inv-loop μ-loop
@@ -84,8 +83,8 @@ returns c =
     let s = c .before .before .before .before .before .before .before .before in
     let a = s .args in
     let v = c .before .before .before .before .vacuum in
-    let last : l .i ≡ a .count = omega (arith, l .inv .0, c .loop-test .left) in
-    stored-then (dimOf (a .n)) vacuum (evolvedIn (a .n) (l .i) (a .ops .now) vacuum) (a .state .now) (v .last .1 .0) (l .state) (s .pre .0 .room) (v .ensures) (l .inv .2)
+    let last : l .i ≡ a .count = omega (arith, l .inv .1, c .loop-test .left) in
+    stored-then (dimOf (a .n)) vacuum (evolvedIn (a .n) (l .i) (a .ops .now) vacuum) (a .state .now) (v .last .1 .0) (l .state) (s .pre .0 .room) (v .ensures) (l .inv .0)
     ∙ ap (λ k. stored (dimOf (a .n)) (evolvedIn (a .n) k (a .ops .now) vacuum) (a .state .now)) last
 
 pub evolve-spec : {M : Type 1} → statement M
