@@ -1,12 +1,12 @@
 -- `gaussian::engine::run_in` meets its contract: the questions are asked once the report is made, and before anything is written. Assumes nothing.
-use mathlib.Core.Path.{refl, sym, ap, _∙_}
+use mathlib.Core.Path.{_≡_, refl, sym, ap, _∙_}
 use native.Mathlib.Omega.{arith}
 use borrow.Author.Needs.{needs}
 use lib.ListN.{length}
 use lib.Ieee.{nan}
 use Rattle.gate.specs.Complex.{f0}
 use Rattle.tape.specs.Parse.{contentOf, parse}
-use Rattle.detect.specs.Questions.{done, answerOf, opsAfter}
+use Rattle.detect.specs.Questions.{late, done, answerOf, opsAfter}
 use Rattle.detect.proofs.Answering.{filled-whole}
 use Rattle.gaussian.specs.Run.{stateAfter}
 use Rattle.gaussian.proofs.Answering.{told-no, told-yes, passes, emits-kept, emits-room, runs-room, program-written, program-run}
@@ -33,8 +33,9 @@ returns c =
     let p = d .detect .ensures in
     let no =
     told-no (a .h) (contentOf (parse (a .tape .now))) (a .g) (a .w .now) ys (a .u .now) vs (d .detect .result) p (length (a .ops .now)) (length (a .state .now))
-    (v .verdict .result) (v .verdict .ensures) (t .if1 .taken) in (
-      c .refuse .ensures ∙ sym (ap answerOf no),
+    (v .verdict .result) (v .verdict .ensures) (t .if1 .taken) in
+    let answer : c .refuse .result ≡ answerOf (late (v .verdict .result) (a .h) (contentOf (parse (a .tape .now)))) = c .refuse .ensures in (
+      answer ∙ sym (ap answerOf no),
       (
         c .before .before .before .before .before .before .before .clear-floats .ensures ∙ filled-whole f0 nan (a .w .now) ys (p .size),
         (

@@ -1,4 +1,5 @@
 -- `gaussian::questions::interacting` meets its contract. Assumes nothing.
+use mathlib.Core.Path.{refl}
 use borrow.Author.Tests.{eq-eqb, ne-eqb}
 use Rattle.gaussian.specs.Run.{interacts}
 use Rattle.gaussian.proofs.questions.interacting.Statement.{statement}
@@ -10,7 +11,7 @@ returns c = rw (eq-eqb _ _ (c .if1 .taken))
 
 returns-2 : tie.Need-returns-2
 unfolding interacts
-returns-2 c = rw (ne-eqb _ _ (c .before .if1 .left))
+returns-2 c = rw (ne-eqb _ _ (c .before .if1 .left)) refl
 
 pub interacting-spec : {M : Type 1} → statement M
 interacting-spec = tie.close (tie.spec returns returns-2)

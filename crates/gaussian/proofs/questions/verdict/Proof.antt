@@ -1,7 +1,9 @@
 -- `gaussian::questions::verdict` meets its contract: question by question. Assumes nothing.
+use Prim.Native.Nat.{_*_}
 use native.Mathlib.Omega.{arith}
 use borrow.Author.Needs.{needs}
 use borrow.Author.Tests.{lt-ltb, le-ltb}
+use Rattle.laws.specs.Bounds.{opPlaces}
 use Rattle.gaussian.specs.Run.{verdictOf}
 use Rattle.state.proofs.Questions.{square-few}
 use Rattle.gaussian.proofs.questions.verdict.Statement.{statement}
@@ -9,7 +11,9 @@ use Rattle.gaussian.proofs.questions.verdict.Tie as tie
 
 returns : tie.Need-returns
 unfolding verdictOf
-returns c = rw (lt-ltb _ _ (c .if1 .taken))
+returns c =
+    let a = c .before .before .before .args in
+    rw (lt-ltb (a .ops) (opPlaces * a .r .operations) (c .if1 .taken))
 
 returns-2 : tie.Need-returns-2
 unfolding verdictOf
