@@ -1,5 +1,5 @@
 #!/bin/sh
-# Tests of the C interface: builds the engine's library and calls it from C and from Rust.
+# Tests of the C interface: calls the engine's library from C and from Rust; it is built first if a source is newer.
 #   tests/abi/run.sh [c|rust|all] [TAPES [SEED]]
 # ENGINE_ARCHIVE names another libengine.a. Needs cc for c, rustc for rust.
 set -eu
@@ -10,12 +10,9 @@ WHAT=${1-all}
 [ $# -eq 0 ] || shift
 
 if [ -z "${ENGINE_ARCHIVE:-}" ]; then
-    (cd "$ROOT" && rt staticlib engine) >"${TMPDIR:-/tmp}/abi_staticlib.$$" 2>&1 || {
-        cat "${TMPDIR:-/tmp}/abi_staticlib.$$"
-        exit 1
-    }
-    rm -f "${TMPDIR:-/tmp}/abi_staticlib.$$"
-    ENGINE_ARCHIVE=$ROOT/target/staticlib/libengine.a
+    . "$ROOT/host/env.sh"
+    build_library
+    ENGINE_ARCHIVE=$ARCHIVE
 fi
 mkdir -p "$OUT"
 

@@ -26,22 +26,26 @@ original_at() {
 build() {
     command -v cargo >/dev/null || fail "cargo is needed (Rust 1.86 or later)"
     ls -d "$REGISTRY"/num-complex-0.4* >/dev/null 2>&1 ||
-        fail "num-complex is not in $REGISTRY: apt-get install librust-num-complex-dev"
+        fail "num-complex is not in $REGISTRY: apt-get update, then apt-get install librust-num-complex-dev"
     cargo build --release --offline --manifest-path "$ROOT/$1/Cargo.toml" \
         --config 'source.crates-io.replace-with="system"' \
         --config "source.system.directory=\"$REGISTRY\""
 }
 
-# Builds the bench, and before it the port's archives, unless others are named.
+# Builds the bench, and before it the port's archives, unless others are named. The engine's is left as it is if it is newer than every
+# source, so one of the leaves that is newer still needs no other test.
 build_bench() {
-    if [ -z "${LEAVES_ARCHIVE:-}" ]; then
+    engine=$ROOT/target/staticlib/libengine.a
+    leaves=$ROOT/target/staticlib/libleaves.a
+    if [ -z "${ENGINE_ARCHIVE:-}" ] || [ -z "${LEAVES_ARCHIVE:-}" ]; then
+        (. "$ROOT/host/env.sh" && build_library)
+    fi
+    if [ -z "${LEAVES_ARCHIVE:-}" ] && ! [ "$leaves" -nt "$engine" ]; then
         (cd "$ROOT" && rt staticlib leaves)
-        LEAVES_ARCHIVE=$ROOT/target/staticlib/libleaves.a
+        touch "$leaves"
     fi
-    if [ -z "${ENGINE_ARCHIVE:-}" ]; then
-        (cd "$ROOT" && rt staticlib engine)
-        ENGINE_ARCHIVE=$ROOT/target/staticlib/libengine.a
-    fi
+    LEAVES_ARCHIVE=${LEAVES_ARCHIVE:-$leaves}
+    ENGINE_ARCHIVE=${ENGINE_ARCHIVE:-$engine}
     export LEAVES_ARCHIVE ENGINE_ARCHIVE
     build bench
 }
@@ -49,7 +53,7 @@ build_bench() {
 # Lets callgrind count the bench with these words; the counts go to the file COUNTED. The environment is empty, so that addresses are the
 # same every time; and memset and memcpy are those without `rep stosb` and `rep movsb`, of which callgrind counts every byte.
 counted() {
-    command -v valgrind >/dev/null || fail "valgrind is needed (apt-get install valgrind)"
+    command -v valgrind >/dev/null || fail "valgrind is needed (apt-get update, then apt-get install valgrind)"
     COUNTED=$CARGO_TARGET_DIR/callgrind.$(echo "$*" | tr ' ' .)
     rm -f "$COUNTED"
     env -i GLIBC_TUNABLES=glibc.cpu.hwcaps=-ERMS "$(command -v valgrind)" -q --tool=callgrind \
