@@ -33,4 +33,8 @@ done
 for list in edges register signs mixed; do
     "$ORACLE" runs "$list" | cmp - "$ROOT/crates/replay_run/data/$list.bin"
 done
+for tape in cut long most over; do
+    "$ORACLE" print "$tape" | cmp - "$ROOT/crates/replay_print/data/$tape.bin"
+done
+"$ORACLE" printed | cmp - "$ROOT/crates/replay_print/stdout"
 echo "the stored lists are what the original gives"

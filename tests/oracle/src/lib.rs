@@ -11,6 +11,7 @@ pub mod fused;
 pub mod gate_text;
 pub mod leaves;
 pub mod list;
+pub mod printed;
 pub mod query;
 pub mod reader;
 pub mod records;

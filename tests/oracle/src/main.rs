@@ -4,7 +4,7 @@ use oracle::families::FAMILIES;
 use oracle::list::{parse_many, List, SEPARATOR};
 use oracle::rng::Rng;
 use oracle::{
-    check, classify, compiled, families, fused, leaves, run, runs, selftest, state_lists,
+    check, classify, compiled, families, fused, leaves, printed, run, runs, selftest, state_lists,
     stored_tapes, tape,
 };
 use std::io::{self, BufWriter, Read, Write};
@@ -26,7 +26,9 @@ oracle classify LIST             the stored list LIST of blocks and their classe
 oracle runs LIST [SEED]          the stored list LIST of whole runs and queries, in binary: edges, register, signs or mixed;
                                  with a seed that is not 0 one of other random tapes
 oracle state LIST                the stored list LIST of states and calls on them, in binary: signs, applies, queries,
-                                 edges or samples";
+                                 edges or samples
+oracle print TAPE                the stored tape TAPE of the printing programs: cut, long, most or over
+oracle printed                   what must be printed of these tapes";
 
 fn main() -> ExitCode {
     let args: Vec<String> = std::env::args().skip(1).collect();
@@ -61,6 +63,8 @@ fn command(words: &[&str]) -> Result<bool, String> {
         ["compile", list] => write_out(&compiled::list(list)?).map(|()| true),
         ["state", list] => write_out(&state_lists::list(list)?).map(|()| true),
         ["classify", list] => write_out(&classify::list(list)?).map(|()| true),
+        ["print", tape] => write_out(&printed::tape(tape)?).map(|()| true),
+        ["printed"] => write_out(printed::text().as_bytes()).map(|()| true),
         _ => Err(USAGE.to_string()),
     }
 }

@@ -84,7 +84,8 @@ fn print_report(r: &GaussianReport, out: &mut impl Write) -> io::Result<()> {
     writeln!(out, "modes{}", numbers(&r.mode_of_qubit))
 }
 
-fn ordering_name(r: &GaussianReport) -> &'static str {
+/// The ordering's name, as the printing program has it too.
+pub fn ordering_name(r: &GaussianReport) -> &'static str {
     match r.ordering {
         Some(Ordering::Identity) => "identity",
         Some(Ordering::Paths) => "paths",
