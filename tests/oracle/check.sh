@@ -18,7 +18,7 @@ for family in $("$ORACLE" families); do
 done
 "$ORACLE" leaves | cmp - "$ROOT/crates/replay_leaves/data/leaves.bin"
 "$ORACLE" leaves products | cmp - "$ROOT/crates/replay_leaves/data/products.bin"
-for list in cuts mixed angled; do
+for list in cuts mixed angled ties; do
     "$ORACLE" fuse "$list" | cmp - "$ROOT/crates/replay_fuse/data/$list.bin"
 done
 for list in edges graphs exact angled; do

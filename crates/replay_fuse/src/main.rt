@@ -273,4 +273,5 @@ fn main() {
     replay(b"cuts.bin");
     replay(b"mixed.bin");
     replay(b"angled.bin");
+    replay(b"ties.bin");
 }

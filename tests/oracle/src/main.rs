@@ -19,7 +19,7 @@ oracle vector FILE               the answers beside those of a state vector
 oracle selftest SEED COUNT       the two module trees beside each other, COUNT lists a family
 oracle reader FILE ..            the plain reader of tapes beside the stored answers of the one in Python
 oracle leaves [products]         the stored list of leaf results, or its second part, in binary
-oracle fuse LIST                 the stored list LIST of tapes and their items, in binary: cuts, mixed or angled
+oracle fuse LIST                 the stored list LIST of tapes and their items, in binary: cuts, mixed, angled or ties
 oracle compile LIST              the stored list LIST of tapes and the answers of compile, in binary: edges, graphs,
                                  exact or angled
 oracle classify LIST             the stored list LIST of blocks and their classes, in binary: gates, given or phases

@@ -58,10 +58,15 @@ pub fn header(list: &List) -> Result<Vec<u8>, String> {
 /// The record of a gate; with `given` its matrix stands there even if it has a code of its own.
 pub fn record(g: &Gate, given: bool) -> Vec<u8> {
     let code = if given { given_code(g) } else { code(g) };
+    coded(code, &g.qubits(), &given_entries(g, code))
+}
+
+/// The record of a code, qubits and entries.
+pub fn coded(code: u8, qubits: &[usize], entries: &[f64]) -> Vec<u8> {
     let mut out = GATE.to_vec();
     out.push(code);
-    out.extend(g.qubits().iter().map(|&q| q as u8));
-    out.extend(given_entries(g, code).iter().flat_map(|x| x.to_le_bytes()));
+    out.extend(qubits.iter().map(|&q| q as u8));
+    out.extend(entries.iter().flat_map(|x| x.to_le_bytes()));
     out
 }
 

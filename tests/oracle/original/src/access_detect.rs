@@ -1,18 +1,11 @@
 /// Access to the private functions of this file (appended for the tests).
 pub mod access {
     use super::{Circuit, DetectOptions, Kind2, Mat2, Mat4};
+    pub use crate::items::{Fused, Item, Kind};
     use std::cell::Cell;
 
     /// A map of `K` Majorana operators and its residual.
     pub type Mapped<const K: usize> = ([[f64; K]; K], f64);
-
-    /// The kinds of `Kind2`, without their data.
-    #[derive(Clone, Copy, Debug, PartialEq, Eq)]
-    pub enum Kind {
-        Diag,
-        Match,
-        NonGaussian,
-    }
 
     /// `Class2` with public fields; `g` is 0 unless the kind is `Diag`.
     #[derive(Clone, Copy, Debug)]
@@ -106,28 +99,28 @@ pub mod access {
         super::path_order(n, edges)
     }
 
-    /// `Item` with public fields; the phase of a diagonal block stays with its kind.
-    #[derive(Clone, Copy, Debug)]
-    pub enum Item {
-        One { w: usize, u: Mat2 },
-        Two { a: usize, b: usize, v: Mat4, kind: Kind, g: f64, residual: f64 },
-        Opaque,
-    }
-
-    /// `Fused` with public fields.
-    #[derive(Clone, Debug)]
-    pub struct Fused {
-        pub items: Vec<Item>,
-        pub slot_of_qubit: Vec<usize>,
-        pub content: Vec<usize>,
-        pub swaps: usize,
-    }
-
     #[inline(never)]
     pub fn fuse(c: &Circuit, opts: &DetectOptions) -> Fused {
         let f = super::fuse(c, opts);
         let items = f.items.iter().map(item).collect();
         Fused { items, slot_of_qubit: f.slot_of_qubit, content: f.content, swaps: f.swaps }
+    }
+
+    /// The same with the two settings that it reads: these types are those of every tree.
+    #[allow(dead_code)]
+    pub fn fused(c: &Circuit, tol: f64, relabel_swaps: bool) -> Fused {
+        fuse(c, &DetectOptions { tol, relabel_swaps, reorder: false })
+    }
+
+    /// A fault: what a split left before an opaque block goes to the block after it.
+    #[allow(dead_code)]
+    pub(super) fn left_behind(raw: &super::Raw, segs: &mut [super::Seg]) {
+        for (&o, s) in raw.open.iter().zip(&raw.close) {
+            let rest = segs[o].gates[segs[o].split..].to_vec();
+            if let Some(s) = *s {
+                segs[s].gates.splice(0..0, rest);
+            }
+        }
     }
 
     /// The number of items alone, for timing.

@@ -3,6 +3,8 @@
 //! tape, how many words follow in all, the tape, and the answer; tag 0 ends the
 //! list. docs/TESTING.md says more.
 
+mod ties;
+
 use crate::bits::word;
 use crate::families;
 use crate::list::{List, RELABEL};
@@ -10,9 +12,9 @@ use crate::records::Records;
 use crate::rng::Rng;
 use crate::tape::{entries, header, record, tape};
 use crate::traced::traced;
-use original::access::detect::access::{fuse, Item, Kind};
-use original::access::detect::DetectOptions as Options;
+use original::access::detect::access::fused;
 use original::gate::Gate;
+use original::items::{Fused, Item, Kind};
 
 /// A tape of which items are compared in every bit, and one of which kinds and wires are: tapes with
 /// a cut that passed an off-diagonal test.
@@ -28,15 +30,20 @@ const TOL: f64 = 1e-10;
 /// Adds a list with its tape; nothing if the two engines may differ there, if it is of the other
 /// tag, or if there is no room.
 fn add(out: &mut Records, tag: u64, list: &List, bytes: &[u8]) -> bool {
-    let (tol, relabel_swaps, reorder) = (list.tol, list.has(RELABEL), false);
     let seen = traced(list);
     if seen.apart || (tag == ANGLED) != seen.angled || list.gates.len() + list.n > ROOM {
         return false;
     }
-    let fused = fuse(&list.circuit(), &Options { tol, relabel_swaps, reorder });
-    let mut body = Vec::from([fused.swaps, seen.tried, usize::from(seen.angled)].map(|x| x as u64));
+    let fused = fused(&list.circuit(), list.tol, list.has(RELABEL));
+    put(out, tag, bytes, &fused, seen.tried, list.tol)
+}
+
+/// Adds a tape with its items and the number of tried cuts; nothing if there is no room.
+fn put(out: &mut Records, tag: u64, bytes: &[u8], fused: &Fused, tried: usize, tol: f64) -> bool {
+    let angled = tag == ANGLED;
+    let mut body = Vec::from([fused.swaps, tried, usize::from(angled)].map(|x| x as u64));
     body.extend(fused.slot_of_qubit.iter().chain(&fused.content).map(|&x| x as u64));
-    fused.items.iter().for_each(|it| add_item(&mut body, it, list.tol, seen.angled));
+    fused.items.iter().for_each(|it| add_item(&mut body, it, tol, angled));
     out.tape(tag, bytes, &body)
 }
 
@@ -78,6 +85,7 @@ pub fn list(name: &str) -> Result<Vec<u8>, String> {
         "cuts" => cuts(&mut out),
         "mixed" => mixed(&mut out),
         "angled" => random(&mut out, ANGLED, &["angles", "tails", "register", "opaque"]),
+        "ties" => ties::add(&mut out),
         _ => return Err(format!("`{name}` is no list of items")),
     }
     Ok(out.bytes())
