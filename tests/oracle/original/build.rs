@@ -26,7 +26,7 @@ const GIVEN: [(&str, &str); 2] = [
 ];
 
 /// Faults that the list `ties` must show: a name, a place of `fuse`, what stands there instead.
-const FAULTS: [(&str, &str, &str); 7] = [
+const FAULTS: [(&str, &str, &str); 8] = [
     ("last_of_equals", "score.2 < s.2", "score.2 <= s.2"),
     ("taken_uncounted", "ka + kb", "0"),
     (
@@ -36,6 +36,7 @@ const FAULTS: [(&str, &str, &str); 7] = [
     ),
     ("window_of_7", "const CUT_WINDOW: usize = 8;", "const CUT_WINDOW: usize = 7;"),
     ("window_of_9", "const CUT_WINDOW: usize = 8;", "const CUT_WINDOW: usize = 9;"),
+    ("every_cut_tried", "k < CUT_WINDOW", "k < len"),
     (
         "runs_merged_in_joins",
         "let t = kron(&time_product(&tail[ta])",

@@ -6,6 +6,7 @@ use original::circuit::{check_gate, Circuit};
 use original::engines::gaussian::detect::DetectOptions;
 use original::engines::gaussian::state::{GaussianOptions, InteractionPolicy};
 use original::gate::Gate;
+use original::given_gates;
 use std::fmt;
 
 /// Flag bit 0: swaps are relabelled.
@@ -42,6 +43,12 @@ impl List {
             c.gate(g);
         }
         c
+    }
+
+    /// The circuit of the tree `given`.
+    pub fn given_circuit(&self) -> given_gates::Circuit {
+        let list = self.gates.iter().map(|&g| g.into()).collect();
+        given_gates::Circuit { num_qubits: self.n, list }
     }
 
     /// The original's settings.

@@ -16,7 +16,7 @@ oracle tape FILE OUT             the tape of FILE's gate list to OUT (several li
 oracle random SEED COUNT FAMILY  random gate lists to standard output
 oracle families                  the names of the families
 oracle vector FILE               the answers beside those of a state vector
-oracle selftest SEED COUNT       the two module trees beside each other, COUNT lists a family
+oracle selftest SEED COUNT       the module trees beside each other, COUNT lists a family
 oracle reader FILE ..            the plain reader of tapes beside the stored answers of the one in Python
 oracle leaves [products]         the stored list of leaf results, or its second part, in binary
 oracle fuse LIST                 the stored list LIST of tapes and their items, in binary: cuts, mixed, angled or ties

@@ -1,9 +1,10 @@
 //! Checks of the driver itself: the two module trees (the original as it stands,
-//! and its text with the access module) agree in everything on random lists, a
-//! list's text reads back, and a known tape comes out right.
+//! and its text with the access module) agree in everything on random lists, and
+//! the tree `given` in their items; a list's text reads back, and a known tape
+//! comes out right.
 
 use crate::families::FAMILIES;
-use crate::list::{parse_many, List, DROP};
+use crate::list::{parse_many, List, DROP, RELABEL};
 use crate::rng::Rng;
 use crate::state_text;
 use crate::tape::tape;
@@ -11,6 +12,7 @@ use original::access::detect as detect_access;
 use original::access::state::{self as state_access, access};
 use original::engines::gaussian::detect;
 use original::engines::gaussian::state::GaussianState;
+use original::given;
 
 /// What was checked.
 #[derive(Default)]
@@ -28,11 +30,20 @@ pub fn selftest(seed: u64, count: usize) -> Outcome {
         for _ in 0..count {
             let list = family(&mut rng.split());
             out.compared += 1;
-            out.trees_differ += (plain(&list) != with_access(&list)) as usize;
+            let same = plain(&list) == with_access(&list) && same_items(&list);
+            out.trees_differ += !same as usize;
             out.texts_differ += !reads_back(&list) as usize;
         }
     }
     out
+}
+
+/// Whether `fuse` gives the same in the tree `given`.
+fn same_items(list: &List) -> bool {
+    let relabel = list.has(RELABEL);
+    let items = detect_access::access::fused(&list.circuit(), list.tol, relabel);
+    let given = given::access::fused(&list.given_circuit(), list.tol, relabel);
+    format!("{items:?}") == format!("{given:?}")
 }
 
 /// Whether the text of a list gives a list of the same text.

@@ -2,8 +2,8 @@
 //! rotation by ZZ is Gaussian only between Hadamards, so each tail has a part
 //! that the block before needs and a part that the block after needs, and the
 //! cut between them must be found. It is, unless both are longer than the
-//! window. Other lists have Clifford gates at random: there many cuts have one
-//! residual, and the number of gates taken decides.
+//! window. Other lists have a few Clifford gates at random, whose residuals
+//! differ by rounding if at all; whole scores hardly ever tie (`fused::ties`).
 
 use super::finish::{limit, tol};
 use super::maker::{neighbours, Maker};

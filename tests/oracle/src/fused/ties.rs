@@ -14,28 +14,37 @@ use original::given::DetectOptions;
 use original::given_gates::{Circuit, Gate};
 use original::{faulty, Complex64};
 
+type Faults = &'static [&'static str];
+
 /// The faults by which one of two equal scores is taken for the other.
-const EQUAL: &[&str] = &["last_of_equals", "second_tail_outside"];
+const EQUAL: Faults = &["last_of_equals", "second_tail_outside"];
+
+/// Those of the window.
+const SEVEN: Faults = &["window_of_7"];
+const NINE: Faults = &["window_of_9", "every_cut_tried"];
+const EVERY: Faults = &["every_cut_tried"];
 
 /// Gates on n qubits, and the faults that they must show.
 struct Tie {
     n: usize,
     flags: u8,
     gates: Vec<Gate>,
-    shows: &'static [&'static str],
+    shows: Faults,
 }
 
 pub fn add(out: &mut Records) {
     let mut rng = Rng::new(5);
-    let ties = [equal(), fewest(), edges(), long(&mut rng), joins(&mut rng), opaque(&mut rng)];
-    for tie in ties.iter().flatten() {
+    let scores = [turned(), near(), grown(), fewest()];
+    let others = [edges(), long(&mut rng), joins(&mut rng), opaque(&mut rng)];
+    for tie in scores.iter().chain(&others).flatten() {
         let circuit = Circuit { num_qubits: tie.n, list: tie.gates.clone() };
         let relabel_swaps = tie.flags & RELABEL != 0;
         let items = fused(&circuit, TOL, relabel_swaps);
         let text = format!("{items:?}");
-        for (name, fuse) in faulty::ALL {
-            let shown = format!("{:?}", fuse(&circuit, TOL, relabel_swaps)) != text;
-            assert!(shown || !tie.shows.contains(&name), "{name} on {:?}", tie.gates);
+        for name in tie.shows {
+            let fuse = faulty::ALL.iter().find(|row| row.0 == *name).expect("a fault").1;
+            let other = format!("{:?}", fuse(&circuit, TOL, relabel_swaps));
+            assert_ne!(text, other, "{name} on {:?}", tie.gates);
         }
         let seen = trace(&circuit, &DetectOptions { tol: TOL, relabel_swaps, reorder: false });
         assert!(!seen.angled && tie.gates.len() + tie.n <= ROOM, "{:?}", tie.gates);
@@ -49,7 +58,7 @@ fn tape(tie: &Tie) -> Vec<u8> {
         out.extend(match *g {
             Gate::One(q, ref m) => coded(GIVEN2, &[q], &entries(m)),
             Gate::Two(a, b, ref m) => coded(GIVEN4, &[a, b], &entries(m)),
-            Gate::Swap(..) | Gate::Named(_) => record(&g.named().expect("a name"), false),
+            _ => record(&g.named().expect("a name"), false),
         });
     }
     out
@@ -82,71 +91,77 @@ fn tail(q: usize, length: usize, turns: &[usize]) -> Vec<Gate> {
     (1..=length).map(gate).collect()
 }
 
-/// A block on (a, b) with two tails; with relabelling other blocks follow.
-fn block(flags: u8, (a, b): (usize, usize), f: [[f64; 2]; 2], tails: [Vec<Gate>; 2]) -> Vec<Gate> {
+/// A block on 0 and 1 with a tail on each; with relabelling the other way round, and blocks follow.
+fn block(flags: u8, f: [[f64; 2]; 2], tails: [Vec<Gate>; 2], shows: Faults) -> Tie {
+    let turned = flags & RELABEL != 0;
+    let (a, b) = if turned { (1, 0) } else { (0, 1) };
     let mut gates = vec![Gate::Two(a, b, core(f))];
     gates.extend(tails.concat());
-    if flags & RELABEL != 0 {
+    if turned {
         gates.extend([Named::ISwap(a, 2), Named::ISwapdg(3, b)].map(Gate::from));
     }
-    gates
+    Tie { n: 4, flags, gates, shows }
 }
 
-/// Whole scores are equal: one turn on either slot makes the block Gaussian, and two or none do not.
-fn equal() -> Vec<Tie> {
-    let mut out = Vec::new();
-    let mut tie = |flags, pair, f, tails| {
-        out.push(Tie { n: 4, flags, gates: block(flags, pair, f, tails), shows: EQUAL })
-    };
-    for (length, place) in [(1, 1), (2, 2), (3, 1), (9, 5)] {
-        tie(0, (0, 1), TURN, [tail(0, length, &[place]), tail(1, length, &[place])]);
-        tie(RELABEL, (1, 0), TURN, [tail(1, length, &[place]), tail(0, length, &[place])]);
-    }
-    // near to a parity, equally on either slot: rank 2 with equal residuals
-    for e in [0.5, 0.0625, -0.25] {
-        let f = [[1.0, 1.0 + 0.5 * e], [1.0, 0.5 * e - 1.0]];
-        tie(0, (0, 1), f, [tail(0, 1, &[1]), tail(1, 1, &[1])]);
-        tie(RELABEL, (1, 0), f, [tail(1, 2, &[1]), tail(0, 2, &[1])]);
-    }
-    // as many scores as gates that are needed, and one more
+/// Both ways.
+fn both(f: [[f64; 2]; 2], tails: [Vec<Gate>; 2], shows: Faults) -> [Tie; 2] {
+    [0, RELABEL].map(|flags| block(flags, f, tails.clone(), shows))
+}
+
+/// One turn on either slot makes the block Gaussian, and two or none do not: two scores are equal.
+fn turned() -> Vec<Tie> {
+    let tails = |length, place| [0, 1].map(|q| tail(q, length, &[place]));
+    let tie = |(length, place)| both(TURN, tails(length, place), EQUAL);
+    [(1, 1), (2, 2), (3, 1), (9, 5)].map(tie).into_iter().flatten().collect()
+}
+
+/// The same, but that the parity is only near, equally on either slot: rank 2 with equal residuals.
+fn near() -> Vec<Tie> {
+    let f = |e: f64| [[1.0, 1.0 + 0.5 * e], [1.0, 0.5 * e - 1.0]];
+    let tie = |(e, length)| both(f(e), [0, 1].map(|q| tail(q, length, &[1])), EQUAL);
+    [(0.5, 1), (0.0625, 1), (-0.25, 2)].map(tie).into_iter().flatten().collect()
+}
+
+/// So many gates are needed, on whichever slot: one score more is equal.
+fn grown() -> Vec<Tie> {
     let grow = |q, length| vec![Gate::One(q, real([[0.0, 1.0], [1.0, 1.0]])); length];
-    for (k, f) in [[[1.0, -0.5], [-0.5, 0.5]], [[-1.5, 1.0], [1.0, -0.5]]].into_iter().enumerate() {
-        tie(0, (0, 1), f, [grow(0, k + 2), grow(1, k + 3)]);
-        tie(RELABEL, (1, 0), f, [grow(1, k + 4), grow(0, k + 2)]);
-    }
-    out
+    let tie = |(gates, f)| both(f, [grow(0, gates), grow(1, gates + 1)], EQUAL);
+    let two = (2, [[1.0, -0.5], [-0.5, 0.5]]);
+    let three = (3, [[-1.5, 1.0], [1.0, -0.5]]);
+    [two, three].map(tie).into_iter().flatten().collect()
 }
 
 /// A later cut takes fewer gates.
 fn fewest() -> Vec<Tie> {
-    let tie = |(flags, length, first, second)| {
+    let tie = |(length, first, second)| {
         let tails = [tail(0, length, &[first]), tail(1, length, &[second])];
-        let gates = block(flags, (0, 1), TURN, tails);
-        Tie { n: 4, flags, gates, shows: &["taken_uncounted"] }
+        block(0, TURN, tails, &["taken_uncounted"])
     };
-    [(0, 3, 1, 2), (RELABEL, 3, 2, 3), (0, 24, 7, 8)].map(tie).into()
+    [(3, 1, 2), (4, 2, 3), (24, 7, 8)].map(tie).into()
 }
 
 // ---- long tails
 
-/// Only one cut of a long tail serves, or one of each: the last of the window, or the first beyond it.
+/// Only one cut of a long tail serves, or one of each tail: at the edge of a window, one beyond it, or
+/// in the middle.
 fn edges() -> Vec<Tie> {
-    let mut out = Vec::new();
-    for (length, place) in [(24, 8), (24, 9), (27, 18), (27, 19), (25, 12), (40, 8)] {
-        let found = place <= 8 || place + 8 >= length;
-        let turns = [place, place + 1];
-        let beyond = place == 9 || place + 9 == length;
-        let shows: &[&str] = match (found, beyond) {
-            (true, _) => &["window_of_7"],
-            (false, true) => &["window_of_9"],
-            _ => &[],
-        };
-        let one = [tail(0, length, &turns), tail(1, 3, &[])];
-        let both = [tail(1, length, &turns), tail(0, length, &turns)];
-        out.push(Tie { n: 4, flags: 0, gates: block(0, (0, 1), TURN, one), shows });
-        out.push(Tie { n: 4, flags: RELABEL, gates: block(RELABEL, (1, 0), TURN, both), shows });
-    }
-    out
+    let tie = |(length, place, shows)| {
+        let one = [tail(0, length, &[place, place + 1]), tail(1, 3, &[])];
+        let each = [0, 1].map(|q| tail(q, length, &[place, place + 1]));
+        [block(0, TURN, one, shows), block(RELABEL, TURN, each, shows)]
+    };
+    [
+        (24, 8, SEVEN),
+        (24, 9, NINE),
+        (27, 18, NINE),
+        (27, 19, SEVEN),
+        (25, 12, EVERY),
+        (40, 8, SEVEN),
+    ]
+    .map(tie)
+    .into_iter()
+    .flatten()
+    .collect()
 }
 
 /// Tails of named gates, as in the list `cuts`.
@@ -156,8 +171,7 @@ fn long(rng: &mut Rng) -> Vec<Tie> {
         let gates = list.gates.into_iter().map(Gate::from).collect();
         Tie { n: list.n, flags: list.flags, gates, shows }
     };
-    let (seven, nine): (&[&str], &[&str]) = (&["window_of_7"], &["window_of_9"]);
-    [(24, 8, seven), (25, 17, seven), (30, 9, nine), (33, 24, nine), (48, 40, seven)]
+    [(24, 8, SEVEN), (25, 17, SEVEN), (30, 9, NINE), (33, 24, NINE), (48, 40, SEVEN)]
         .map(&mut tie)
         .into()
 }
