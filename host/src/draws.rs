@@ -1,5 +1,9 @@
 //! Draws for shots: numbers of at least 0 and below 1, from a seed or from a file.
 
+use crate::fault::Fault;
+use crate::line::LONGEST_WORD;
+use std::io::Read;
+
 /// Splitmix64 (Steele, Lea and Flood, 2014): the state goes up by a constant, and what comes out is
 /// the state with its bits mixed. A draw is the upper 53 bits, divided by 2^53.
 pub struct Splitmix64(u64);
@@ -25,17 +29,37 @@ impl Iterator for Splitmix64 {
     }
 }
 
-/// Reads a file of draws: numbers between blanks or on lines, with `#` for comments. Whether each is
-/// from 0 and below 1 is the engine's question.
-pub fn read(text: &str) -> Result<Vec<f64>, String> {
-    let mut draws = vec![];
-    for (i, line) in text.lines().enumerate() {
-        for word in line.split('#').next().unwrap_or("").split_whitespace() {
-            let none = |_| format!("line {}: `{word}` is no number", i + 1);
-            draws.push(word.parse().map_err(none)?);
+/// Reads at most so many draws from a file: numbers between blanks or on lines, with `#` for comments. What follows is not
+/// read. Whether each is from 0 and below 1 is the engine's question.
+pub fn read(from: impl Read, most: usize) -> Result<Vec<f64>, Fault> {
+    let (mut draws, mut line) = (vec![], 1);
+    let (mut word, mut comment) = (vec![], false);
+    for byte in from.bytes().chain([Ok(b'\n')]) {
+        let byte = byte.map_err(|e| Fault::whole(format!("cannot be read: {e}")))?;
+        comment |= byte == b'#';
+        if comment || byte.is_ascii_whitespace() {
+            if !word.is_empty() {
+                draws.push(number(&word).map_err(|reason| Fault { line, reason })?);
+                word.clear();
+            }
+        } else if word.len() < LONGEST_WORD {
+            word.push(byte);
+        } else {
+            return Err(Fault { line, reason: "a word is too long for a number".into() });
         }
+        if draws.len() == most {
+            break;
+        }
+        comment &= !matches!(byte, b'\n' | b'\r');
+        line += usize::from(byte == b'\n');
     }
     Ok(draws)
+}
+
+/// The number of a word.
+fn number(word: &[u8]) -> Result<f64, String> {
+    let number = std::str::from_utf8(word).ok().and_then(|w| w.parse().ok());
+    number.ok_or_else(|| format!("`{}` is no number", String::from_utf8_lossy(word)))
 }
 
 #[cfg(test)]
@@ -54,7 +78,11 @@ mod tests {
 
     #[test]
     fn a_file_of_draws() {
-        assert_eq!(read("0.5 0.25 # two\n\n1e-3\n"), Ok(vec![0.5, 0.25, 0.001]));
-        assert_eq!(read("0.5\nhalf\n"), Err("line 2: `half` is no number".into()));
+        let read = |text: &str, most| read(text.as_bytes(), most).map_err(|f| f.to_string());
+        assert_eq!(read("0.5 0.25 # two\n\n1e-3", 9), Ok(vec![0.5, 0.25, 0.001]));
+        assert_eq!(read("0.5\nhalf\n", 9), Err("line 2: `half` is no number".into()));
+        assert_eq!(read("0.5\nhalf\n", 1), Ok(vec![0.5]));
+        assert_eq!(read("0.5", 0), Ok(vec![]));
+        assert!(read(&"1".repeat(9999), 9).is_err());
     }
 }

@@ -37,7 +37,9 @@ pub struct Report {
     pub interactions: u64,
     pub swaps: u64,
     pub number_conserving: bool,
+    /// No block is bad, and none is an interaction; the original calls it so.
     pub exact: bool,
+    /// No block is bad.
     pub free: bool,
     pub angled: bool,
     pub ordering: Ordering,
@@ -105,6 +107,27 @@ impl Operation {
 pub struct Compiled {
     pub report: Report,
     pub operations: Vec<Operation>,
+}
+
+impl Compiled {
+    /// How many blocks were tested for `number_conserving`: those on one qubit and the matchgates, and
+    /// not the diagonal ones on two qubits, interactions among them. `None` where a block is bad, for
+    /// then there are no operations to tell them apart by.
+    pub fn number_tested(&self) -> Option<u64> {
+        let matchgates = self.operations.iter().filter(|o| matches!(o, Operation::Two { .. }));
+        let r = &self.report;
+        (r.bad == 0).then(|| r.blocks - r.two_qubit + matchgates.count() as u64)
+    }
+
+    /// Whether every block that was tested conserves the number of ones; `None` where none was, or
+    /// none is known to have been.
+    pub fn number_conserving(&self) -> Option<bool> {
+        match (self.report.number_conserving, self.number_tested()) {
+            (false, _) => Some(false),
+            (true, None | Some(0)) => None,
+            (true, Some(_)) => Some(true),
+        }
+    }
 }
 
 /// A state, for the queries: the library's slice and mode table.

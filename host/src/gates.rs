@@ -98,6 +98,26 @@ pub fn number(word: &str) -> Option<f64> {
     word.parse().ok().filter(|x: &f64| x.is_finite())
 }
 
+/// How far a given matrix may be from a unitary one before the tool warns of it.
+pub const UNITARY: f64 = 1e-9;
+
+/// How far a given matrix is from a unitary one: the largest entry of U times its adjoint, less the identity. The entries
+/// stand row by row, real before imaginary; a gate without entries is no given one.
+pub fn off_unitary(entries: &[f64]) -> f64 {
+    let dim = if entries.len() == 8 { 2 } else { 4 };
+    let rows: Vec<&[f64]> = entries.chunks(2 * dim).collect();
+    let off = |(a, x): (usize, &&[f64]), (b, y): (usize, &&[f64])| {
+        let pairs = || x.chunks(2).zip(y.chunks(2));
+        let re: f64 = pairs().map(|(p, q)| p[0] * q[0] + p[1] * q[1]).sum();
+        let im: f64 = pairs().map(|(p, q)| p[1] * q[0] - p[0] * q[1]).sum();
+        (re - f64::from(u8::from(a == b))).hypot(im)
+    };
+    let all = rows.iter().enumerate();
+    let all = all.flat_map(|r| rows.iter().enumerate().map(move |s| off(r, s)));
+    // A NaN is as far as can be.
+    all.fold(0.0, |most, x| if x.is_nan() { f64::INFINITY } else { x.max(most) })
+}
+
 const ZERO: Complex = (0.0, 0.0);
 const ONE: Complex = (1.0, 0.0);
 
@@ -169,19 +189,22 @@ mod tests {
     fn given_matrices_are_unitary() {
         for k in &KINDS {
             let t = [0.3, -1.1, 2.5];
-            let rows: Vec<Complex> = match k.form {
+            let matrix: Vec<Complex> = match k.form {
                 Form::Code(_) => continue,
                 Form::Given1(f) => f(&t[..k.angles]).to_vec(),
                 Form::Given2(f) => f(&t[..k.angles]).to_vec(),
             };
-            let dim = if k.qubits == 1 { 2 } else { 4 };
-            for (a, b) in (0..dim).flat_map(|a| (0..dim).map(move |b| (a, b))) {
-                let (x, y) = (&rows[a * dim..][..dim], &rows[b * dim..][..dim]);
-                let re: f64 = x.iter().zip(y).map(|(p, q)| p.0 * q.0 + p.1 * q.1).sum();
-                let im: f64 = x.iter().zip(y).map(|(p, q)| p.1 * q.0 - p.0 * q.1).sum();
-                let want = if a == b { 1.0 } else { 0.0 };
-                assert!((re - want).abs() < 1e-15 && im.abs() < 1e-15, "{} {a} {b}", k.name);
-            }
+            let entries: Vec<f64> = matrix.iter().flat_map(|z| [z.0, z.1]).collect();
+            assert!(off_unitary(&entries) < 1e-15, "{}", k.name);
         }
+    }
+
+    #[test]
+    fn how_far_from_unitary() {
+        assert_eq!(off_unitary(&[]), 0.0);
+        assert_eq!(off_unitary(&[0.0, 0.0, 0.0, 1.0, 0.0, -1.0, 0.0, 0.0]), 0.0);
+        assert_eq!(off_unitary(&[1.0, 0.0, 0.0, 0.0, 1.0, 0.0, 0.0, 0.0]), 1.0);
+        assert_eq!(off_unitary(&[2.0, 0.0, 0.0, 0.0, 0.0, 0.0, 1.0, 0.0]), 3.0);
+        assert_eq!(off_unitary(&[f64::NAN; 32]), f64::INFINITY);
     }
 }

@@ -1,5 +1,5 @@
-//! The job: a source is compiled and run, all parities are read off, and what was asked besides is
-//! answered.
+//! The job: a source is compiled and run, all parities are read off, what was asked besides is
+//! answered, and shots are taken.
 
 use crate::engine::{Compiled, Engine, Refusal, State};
 use crate::refusals::{self, Explained};
@@ -35,6 +35,15 @@ impl Query {
         }
     }
 
+    /// The qubits of its list, in order; a basis index has none.
+    pub fn qubits(&self) -> Box<dyn Iterator<Item = usize> + '_> {
+        match self {
+            Query::Product(qubits) => Box::new(qubits.iter().copied()),
+            Query::Marginal(parts) => Box::new(parts.iter().map(|(q, _)| *q)),
+            Query::Index(_) => Box::new(std::iter::empty()),
+        }
+    }
+
     fn ask(&self, engine: &dyn Engine, state: &State) -> Result<f64, Refusal> {
         match self {
             Query::Product(qubits) => engine.expectation_z_product(state, qubits),
@@ -50,15 +59,6 @@ impl Query {
     }
 }
 
-/// What is asked besides all parities.
-#[derive(Default)]
-pub struct Asked {
-    pub queries: Vec<Query>,
-    /// The number of shots, and n draws for each.
-    pub shots: usize,
-    pub draws: Option<Box<dyn Iterator<Item = f64>>>,
-}
-
 /// What came of it.
 #[derive(Debug)]
 pub struct Outcome {
@@ -69,72 +69,87 @@ pub struct Outcome {
 
 #[derive(Debug)]
 pub struct Answers {
+    /// The state after all gates, of which shots can be taken.
+    pub state: State,
     /// Z of each qubit.
     pub parities: Vec<f64>,
     /// The answer to each query.
     pub queries: Vec<Result<f64, Refusal>>,
-    /// Basis indices; a refusal names the place among all draws.
-    pub shots: Option<Result<Vec<u128>, Refusal>>,
 }
 
 impl Outcome {
     /// Whether anything was refused.
     pub fn refused(&self) -> bool {
-        let Ok(answers) = &self.answers else { return true };
-        let shots = answers.shots.as_ref().is_some_and(|s| s.is_err());
-        shots || answers.queries.iter().any(|q| q.is_err())
+        self.answers.as_ref().map_or(true, |a| a.queries.iter().any(|q| q.is_err()))
     }
 }
 
-/// Does the job. `progress` hears how many shots are done.
-pub fn run(
-    source: &Source,
-    asked: Asked,
-    engine: &dyn Engine,
-    progress: &mut dyn FnMut(usize),
-) -> Outcome {
+/// Does the job but for the shots. It fails only if the engine refuses what no question of its forbids.
+pub fn run(source: &Source, queries: &[Query], engine: &dyn Engine) -> Result<Outcome, String> {
     match engine.run(&source.tape) {
         Err(refusal) => {
             let compiled = engine.compile(&source.tape).ok();
             let refused = refusals::explain(refusal, source, compiled.as_ref(), engine);
-            Outcome { compiled, answers: Err(refused) }
+            Ok(Outcome { compiled, answers: Err(refused) })
         }
         Ok(run) => {
-            let state = &run.state;
-            // No question of `expectation_z` has no for an answer here.
-            let z = |q| engine.expectation_z(state, q).unwrap_or(f64::NAN);
-            let parities = (0..state.n()).map(z).collect();
-            let queries = asked.queries.iter().map(|q| q.ask(engine, state)).collect();
-            let shots = asked.draws.map(|d| sample(engine, state, asked.shots, d, progress));
-            let answers = Answers { parities, queries, shots };
-            Outcome { compiled: Some(run.compiled), answers: Ok(answers) }
+            let state = run.state;
+            let impossible = |r: Refusal| refusals::tools_fault(r.number);
+            let z = |q| engine.expectation_z(&state, q).map_err(impossible);
+            let parities = (0..state.n()).map(z).collect::<Result<_, _>>()?;
+            let queries = queries.iter().map(|q| q.ask(engine, &state)).collect();
+            let answers = Answers { state, parities, queries };
+            Ok(Outcome { compiled: Some(run.compiled), answers: Ok(answers) })
         }
     }
 }
 
-/// Shots of one call: few enough to tell of the progress.
+/// Some shots, as basis indices; a refusal names the place among all draws, and ends the shots.
+pub type Portion = Result<Vec<u128>, Refusal>;
+
+/// Shots of a state, a portion at a time, so that they can be printed as they come.
+pub struct Shots<'a> {
+    engine: &'a dyn Engine,
+    state: &'a State,
+    left: usize,
+    done: usize,
+    draws: Box<dyn Iterator<Item = f64> + 'a>,
+}
+
+impl<'a> Shots<'a> {
+    /// So many shots, with n draws for each.
+    pub fn new(
+        engine: &'a dyn Engine,
+        state: &'a State,
+        shots: usize,
+        draws: Box<dyn Iterator<Item = f64> + 'a>,
+    ) -> Shots<'a> {
+        Shots { engine, state, left: shots, done: 0, draws }
+    }
+}
+
+/// Shots of one call: few enough to be seen soon.
 const PORTION: usize = 64;
 
-fn sample(
-    engine: &dyn Engine,
-    state: &State,
-    shots: usize,
-    mut draws: Box<dyn Iterator<Item = f64>>,
-    progress: &mut dyn FnMut(usize),
-) -> Result<Vec<u128>, Refusal> {
-    let mut all = vec![];
-    while all.len() < shots {
-        let count = PORTION.min(shots - all.len());
-        let drawn: Vec<f64> = draws.by_ref().take(count * state.n()).collect();
-        let before = (all.len() * state.n()) as u64;
+impl Iterator for Shots<'_> {
+    type Item = Portion;
+
+    fn next(&mut self) -> Option<Portion> {
+        let count = PORTION.min(self.left);
+        if count == 0 {
+            return None;
+        }
+        let drawn: Vec<f64> = self.draws.by_ref().take(count * self.state.n()).collect();
+        let before = (self.done * self.state.n()) as u64;
         let name_draw = |r: Refusal| match r.number {
             22 => Refusal { place: r.place + before, ..r },
             _ => r,
         };
-        all.extend(engine.sample(state, count, &drawn).map_err(name_draw)?);
-        progress(all.len());
+        let portion = self.engine.sample(self.state, count, &drawn).map_err(name_draw);
+        self.left = if portion.is_ok() { self.left - count } else { 0 };
+        self.done += count;
+        Some(portion)
     }
-    Ok(all)
 }
 
 #[cfg(test)]
@@ -151,38 +166,39 @@ mod tests {
         let n = 3;
         let draws: Vec<f64> = (0..n * 150).map(|i| (i % 7) as f64 / 7.0).collect();
         let fake = Fake::accepting(&[1.0; 3]);
-        let asked = Asked {
-            shots: 150,
-            draws: Some(Box::new(draws.clone().into_iter())),
-            ..Asked::default()
-        };
-        let mut told = vec![];
-        let outcome = run(&source("qubits 3\nx 0\n"), asked, &fake, &mut |k| told.push(k));
         let state = fake.run(&source("qubits 3").tape).expect("a run").state;
-        let whole = fake.sample(&state, 150, &draws);
-        let answers = outcome.answers.expect("answers");
-        assert_eq!(answers.shots, Some(whole));
-        assert_eq!(told, [64, 128, 150]);
+        let portions: Vec<_> =
+            Shots::new(&fake, &state, 150, Box::new(draws.iter().copied())).collect();
+        let portions: Vec<_> = portions.into_iter().map(|p| p.expect("shots")).collect();
+        assert_eq!(portions.iter().map(Vec::len).collect::<Vec<_>>(), [64, 64, 22]);
+        assert_eq!(Ok(portions.concat()), fake.sample(&state, 150, &draws));
     }
 
     #[test]
     fn a_bad_draw_is_named_among_all() {
-        let mut draws = vec![0.5; 300];
+        let mut draws = vec![0.5; 600];
         draws[250] = 1.0;
-        let asked =
-            Asked { shots: 100, draws: Some(Box::new(draws.into_iter())), ..Asked::default() };
         let fake = Fake::accepting(&[1.0; 3]);
-        let outcome = run(&source("qubits 3"), asked, &fake, &mut |_| ());
-        assert!(outcome.refused());
-        let answers = outcome.answers.expect("answers");
-        assert_eq!(answers.shots, Some(Err(Refusal { number: 22, place: 250 })));
+        let state = fake.run(&source("qubits 3").tape).expect("a run").state;
+        let portions: Vec<_> =
+            Shots::new(&fake, &state, 200, Box::new(draws.into_iter())).collect();
+        assert_eq!(portions.len(), 2);
+        assert_eq!(portions[1], Err(Refusal { number: 22, place: 250 }));
+    }
+
+    #[test]
+    fn an_impossible_refusal_is_an_error() {
+        let fake = Fake { silent: true, ..Fake::accepting(&[1.0; 3]) };
+        let fault = run(&source("qubits 3"), &[], &fake).expect_err("no parities");
+        let want = "the tool asked the engine wrongly (question 19), which is the tool's fault";
+        assert_eq!(fault, want);
     }
 
     #[test]
     fn where_a_list_stops_being_accepted() {
         let text = "qubits 2\n# a comment\nx 0\nz 1\n\nh 0\nx 1\n";
         let fake = Fake::refusing(2, 12, 2);
-        let outcome = run(&source(text), Asked::default(), &fake, &mut |_| ());
+        let outcome = run(&source(text), &[], &fake).expect("an outcome");
         let refused = outcome.answers.expect_err("a refusal");
         let place = "line 6, `h 0`: accepted before it, and never from it on";
         assert_eq!((refused.place.as_deref(), refused.line), (Some(place), Some(6)));
@@ -193,7 +209,7 @@ mod tests {
     fn a_record_that_is_refused_is_named() {
         let text = "qubits 2\nx 0\nx 9 # wrong\n";
         let fake = Fake::refusing(2, 6, 1);
-        let outcome = run(&source(text), Asked::default(), &fake, &mut |_| ());
+        let outcome = run(&source(text), &[], &fake).expect("an outcome");
         let refused = outcome.answers.expect_err("a refusal");
         let line = crate::report::refused_line(&refused);
         let want = "line 3, `x 9`: qubit 9 is not below 2 (refusal 6); ";

@@ -11,6 +11,7 @@
 
 pub mod draws;
 pub mod engine;
+pub mod fault;
 pub mod gates;
 pub mod job;
 pub mod json;
@@ -23,4 +24,5 @@ pub mod report;
 pub mod source;
 pub mod svg;
 pub mod tape;
-mod wording;
+mod text;
+pub mod wording;

@@ -4,6 +4,9 @@ use crate::gates::{self, Form};
 use crate::tape::{Record, GIVEN1, GIVEN2};
 use crate::wording::count;
 
+/// Most bytes of a word: as many as the longest decimal number of an f64 needs.
+pub const LONGEST_WORD: usize = 1100;
+
 /// The words of a line without its comment. A text in quotes is one word that keeps its opening
 /// quote.
 pub fn words(line: &str) -> Result<Vec<String>, String> {
@@ -11,6 +14,9 @@ pub fn words(line: &str) -> Result<Vec<String>, String> {
     let mut rest = line.trim_start();
     while !rest.is_empty() && !rest.starts_with('#') {
         let (word, after) = if rest.starts_with('"') { quoted(rest)? } else { plain(rest) };
+        if word.len() > LONGEST_WORD {
+            return Err(format!("a word of {} bytes is no name and no number", word.len()));
+        }
         words.push(word);
         rest = after.trim_start();
     }
@@ -211,5 +217,7 @@ mod tests {
         ] {
             assert_eq!(read(line), Err(want.to_string()), "{line}");
         }
+        let long = read(&"x".repeat(5000));
+        assert_eq!(long, Err("a word of 5000 bytes is no name and no number".into()));
     }
 }

@@ -1,10 +1,11 @@
 //! The gate list as text: settings, then one gate or label a line. `HELP` describes the format for
 //! people; `line` reads the single lines.
 
+use crate::engine::MAX_GATES;
+use crate::fault::Fault;
 use crate::gates;
 use crate::line::{record, words};
 use crate::tape::{Header, Record};
-use std::fmt;
 
 /// The format in words.
 pub const HELP: &str = "\
@@ -29,22 +30,6 @@ The names id cx p cp u3 toffoli are known too. Settings that are left out
 have the values shown.
 ";
 
-/// What is wrong with a list, and on which of its lines (from 1; 0 is the list as a whole).
-#[derive(Debug, PartialEq)]
-pub struct Fault {
-    pub line: usize,
-    pub reason: String,
-}
-
-impl fmt::Display for Fault {
-    fn fmt(&self, f: &mut fmt::Formatter) -> fmt::Result {
-        match self.line {
-            0 => write!(f, "{}", self.reason),
-            line => write!(f, "line {line}: {}", self.reason),
-        }
-    }
-}
-
 /// A gate list that has been read.
 #[derive(Debug)]
 pub struct List {
@@ -63,18 +48,15 @@ impl List {
 /// A setting of the caller: name and value. It counts, whatever the list says.
 pub type Setting = (String, String);
 
-/// Reads a list.
+/// Reads a list. A gate too many ends the reading, so that a list takes no more room than one that can be run.
 pub fn read(text: &str, settings: &[Setting]) -> Result<List, Fault> {
-    // Some editors put a byte order mark before the text.
-    let text = text.trim_start_matches('\u{FEFF}');
     if text.trim().is_empty() {
-        return Err(Fault { line: 0, reason: "the file is empty".into() });
+        return Err(Fault::whole("the file is empty"));
     }
     let mut made = Made { header: Header::usual(0), lines: vec![] };
-    let whole = |reason| Fault { line: 0, reason };
-    set_all(&mut made.header, settings).map_err(whole)?;
+    set_all(&mut made.header, settings).map_err(Fault::whole)?;
     made.lines.extend(settings.iter().map(|s| (s.0.to_ascii_lowercase(), None)));
-    let mut records = vec![];
+    let (mut records, mut gates) = (vec![], 0);
     for (i, line) in text.lines().enumerate() {
         let fault = |reason| Fault { line: i + 1, reason };
         let words = words(line).map_err(fault)?;
@@ -85,10 +67,15 @@ pub fn read(text: &str, settings: &[Setting]) -> Result<List, Fault> {
         if made.line("qubits").is_none() {
             return Err(fault("a line such as `qubits 60` must come before the first gate".into()));
         }
-        records.push((i + 1, record(first, rest, made.header.qubits).map_err(fault)?));
+        let record = record(first, rest, made.header.qubits).map_err(fault)?;
+        gates += usize::from(matches!(record, Record::Gate { .. }));
+        if gates > MAX_GATES {
+            return Err(fault(format!("gate {gates} is one too many: at most {MAX_GATES}")));
+        }
+        records.push((i + 1, record));
     }
     if made.line("qubits").is_none() {
-        return Err(whole("there is no line such as `qubits 60`".into()));
+        return Err(Fault::whole("there is no line such as `qubits 60`"));
     }
     Ok(List { header: made.header, records })
 }
@@ -235,5 +222,13 @@ mod tests {
         ] {
             assert_eq!(fault(text), want);
         }
+    }
+
+    #[test]
+    fn a_gate_too_many_ends_the_reading() {
+        let most = format!("qubits 1\nlabel \"a\"\n{}", "x 0\n".repeat(MAX_GATES));
+        assert_eq!(read(&most, &[]).expect("a list").records.len(), MAX_GATES + 1);
+        let over = format!("{most}x 0\nthis is never read\n");
+        assert_eq!(fault(&over), "line 1027: gate 1025 is one too many: at most 1024");
     }
 }

@@ -1,92 +1,181 @@
 //! The tool `jozkeral`: one job from the command line. See `options` for what it takes.
 
+mod stdout;
+
 use jozkeral::draws::{self, Splitmix64};
-use jozkeral::engine::Library;
-use jozkeral::job::{self, Asked, Outcome, Query};
-use jozkeral::options::{self, Options};
+use jozkeral::engine::{Library, MAX_SHOTS};
+use jozkeral::fault::Fault;
+use jozkeral::job::{self, Outcome, Portion, Query, Shots};
+use jozkeral::options::{self, Command, Options};
 use jozkeral::report::{self, Context};
-use jozkeral::source::Source;
-use jozkeral::{json, svg};
-use std::io::{IsTerminal, Read, Write};
+use jozkeral::source::{Source, MOST_BYTES};
+use jozkeral::wording::shown;
+use jozkeral::{json, refusals, svg};
+use std::ffi::{OsStr, OsString};
+use std::fs::File;
+use std::io::{self, BufReader, IsTerminal, Read, Write};
 use std::process::ExitCode;
 use std::time::Instant;
 
-/// Exit status of a job that the engine refused, and of one that is ill-formed.
+/// Exit status of a job of which the engine refused something, and of one that is ill-formed or could not be printed.
 const REFUSED: u8 = 1;
 const FAULT: u8 = 2;
 
+/// Why the tool stops.
+enum Stop {
+    /// What to say, and the line of the list that it is about.
+    Said(String, Option<usize>),
+    /// Standard output takes no more.
+    Print(io::Error),
+}
+
+impl Stop {
+    /// A fault of a file.
+    fn at(name: &str, fault: Fault) -> Stop {
+        Stop::Said(format!("{name}: {fault}"), Some(fault.line).filter(|line| *line > 0))
+    }
+}
+
+impl From<String> for Stop {
+    fn from(message: String) -> Stop {
+        Stop::Said(message, None)
+    }
+}
+
+impl From<io::Error> for Stop {
+    fn from(error: io::Error) -> Stop {
+        Stop::Print(error)
+    }
+}
+
 fn main() -> ExitCode {
-    let words = std::env::args_os().skip(1).map(|w| w.to_string_lossy().into_owned());
-    let status = match options::read(words) {
-        Ok(None) => print(&options::help()).map(|()| 0),
-        Ok(Some(options)) => work(&options),
-        Err(fault) => Err(fault),
-    };
-    ExitCode::from(status.unwrap_or_else(|fault| {
-        eprintln!("jozkeral: {fault}");
+    let words: Vec<OsString> = std::env::args_os().skip(1).collect();
+    let json = options::wants_json(&words);
+    let done = stdout::open().map_err(Stop::Print).and_then(|mut out| {
+        let done = work(words, &mut out);
+        if let (true, Err(Stop::Said(message, line))) = (json, &done) {
+            writeln!(out, "{}", json::fault(message, *line))?;
+        }
+        done
+    });
+    ExitCode::from(done.unwrap_or_else(|stop| {
+        match stop {
+            Stop::Said(message, _) => say(&message),
+            // The reader of a pipe has left because it has what it wanted.
+            Stop::Print(e) if e.kind() == io::ErrorKind::BrokenPipe => {}
+            Stop::Print(e) => say(&format!("cannot print: {e}")),
+        }
         FAULT
     }))
 }
 
+/// A line among the errors. If nobody can read it, there is nobody to tell.
+fn say(message: &str) {
+    let _ = writeln!(io::stderr(), "jozkeral: {}", shown(message));
+}
+
 /// Does what the command line asks; the answer is the exit status.
-fn work(options: &Options) -> Result<u8, String> {
-    let name = if options.file == "-" { "standard input" } else { &options.file };
-    let source = Source::read(name, contents(&options.file)?, &options.settings)
-        .map_err(|fault| format!("{name}: {fault}"))?;
+fn work(words: Vec<OsString>, out: &mut File) -> Result<u8, Stop> {
+    let options = match options::read(words)? {
+        Command::Help => return Ok(out.write_all(options::help().as_bytes()).map(|()| 0)?),
+        Command::Version => return Ok(out.write_all(options::version().as_bytes()).map(|()| 0)?),
+        Command::Job(options) => options,
+    };
+    let name = shown_name(&options.file);
+    let source = Source::read(&name, contents(&options.file)?, &options.settings)
+        .map_err(|fault| Stop::at(&name, fault))?;
     if let Some(file) = &options.tape {
         write(file, &source.tape)?;
     }
     if options.dump {
-        return dump(&source);
+        return dump(&source, out);
     }
-    let asked = asked(options, &source)?;
-    let draws = match &options.draws {
-        Some(file) => file.clone(),
+    answer(&options, &source, out)
+}
+
+/// Runs the source and answers what is asked of it.
+fn answer(options: &Options, source: &Source, out: &mut File) -> Result<u8, Stop> {
+    check_indices(options, source)?;
+    let (shots, drawn) = draws(options, source)?;
+    let outcome = job::run(source, &options.queries, &Library)?;
+    let from = match &options.draws {
+        Some(file) => shown_name(file),
         None => format!("seed {} (splitmix64)", options.seed.unwrap_or(0)),
     };
-    let shots = asked.shots;
-    let outcome = job::run(&source, asked, &Library, &mut progress(shots));
-    let context = Context {
-        source: &source,
-        queries: &options.queries,
-        draws: &draws,
-        digits: options.digits,
-    };
+    let context =
+        Context { source, queries: &options.queries, shots, draws: &from, digits: options.digits };
     if let Some(file) = &options.svg {
         write(file, svg::sheet(&context, &outcome).as_bytes())?;
     }
-    show(options, &context, &outcome)?;
-    Ok(if outcome.refused() { REFUSED } else { 0 })
+    warn(source, &outcome);
+    let all = match &outcome.answers {
+        Err(_) => show(options.json, &context, &outcome, &mut std::iter::empty(), out)?,
+        Ok(answers) => {
+            let wanted = shots.unwrap_or(0);
+            let shots = Shots::new(&Library, &answers.state, wanted, drawn);
+            let mut tell = progress(wanted);
+            show(options.json, &context, &outcome, &mut shots.inspect(|p| tell(p)), out)?
+        }
+    };
+    Ok(match &outcome.answers {
+        Err(refused) if refusals::is_fault(refused.refusal) => FAULT,
+        _ if all && !outcome.refused() => 0,
+        _ => REFUSED,
+    })
 }
 
-/// Prints the outcome. A refusal of the tape itself is one line among the errors.
-fn show(options: &Options, context: &Context, outcome: &Outcome) -> Result<(), String> {
-    if options.json {
-        return print(&format!("{}\n", json::value(context, outcome)));
+/// Prints the outcome; the answer is false if shots were refused. A refusal of the tape itself is one line among the errors.
+fn show(
+    json: bool,
+    context: &Context,
+    outcome: &Outcome,
+    portions: &mut dyn Iterator<Item = Portion>,
+    out: &mut File,
+) -> Result<bool, Stop> {
+    if let (Err(refused), None) = (&outcome.answers, &outcome.compiled) {
+        say(&format!("{}: {}", context.source.name, report::refused_line(refused)));
+    }
+    if json {
+        return Ok(json::write(out, context, outcome, portions)?);
+    }
+    if outcome.compiled.is_some() {
+        out.write_all(report::words(context, outcome).as_bytes())?;
     }
     match &outcome.answers {
-        Err(refused) if outcome.compiled.is_none() => {
-            eprintln!("jozkeral: {}: {}", context.source.name, report::refused_line(refused));
-            Ok(())
-        }
-        _ => print(&report::words(context, outcome)),
+        Ok(answers) => Ok(report::shots(out, context, answers.parities.len(), portions)?),
+        Err(_) => Ok(true),
+    }
+}
+
+/// Says the warnings, unless the tape itself was refused: the first few, for each stands for a line of the list.
+fn warn(source: &Source, outcome: &Outcome) {
+    const SAID: usize = 8;
+    if outcome.compiled.is_none() {
+        return;
+    }
+    let warnings = report::warnings(source);
+    for warning in warnings.iter().take(SAID) {
+        say(&format!("{}: warning: {warning}", source.name));
+    }
+    if warnings.len() > SAID {
+        say(&format!("{}: more warnings: {}", source.name, warnings.len() - SAID));
     }
 }
 
 /// Prints the tape as text; what cannot be read of it is a fault.
-fn dump(source: &Source) -> Result<u8, String> {
+fn dump(source: &Source, out: &mut File) -> Result<u8, Stop> {
     match source.dump() {
-        Ok(text) => print(&text).map(|()| 0),
+        Ok(text) => Ok(out.write_all(text.as_bytes()).map(|()| 0)?),
         Err(text) => {
-            print(&format!("{text}\n"))?;
-            Err(format!("{}: not all of it is a tape", source.name))
+            writeln!(out, "{text}")?;
+            Err(format!("{}: not all of it is a tape", source.name).into())
         }
     }
 }
 
-/// What is asked of the engine, and whether it can be of this source.
-fn asked(options: &Options, source: &Source) -> Result<Asked, String> {
-    let n = source.header().map_or(0, |h| usize::from(h.qubits));
+/// Whether every basis index has a bit for each qubit. A tape without a header is the engine's to refuse.
+fn check_indices(options: &Options, source: &Source) -> Result<(), String> {
+    let Some(n) = source.header().map(|h| usize::from(h.qubits)) else { return Ok(()) };
     for query in &options.queries {
         if let Query::Index(bits) = query {
             if bits.len() != n {
@@ -94,67 +183,74 @@ fn asked(options: &Options, source: &Source) -> Result<Asked, String> {
             }
         }
     }
-    let queries = options.queries.clone();
-    match (&options.draws, options.shots) {
-        (None, None) => Ok(Asked { queries, ..Asked::default() }),
-        (None, Some(shots)) => {
-            let draws = Splitmix64::new(options.seed.unwrap_or(0));
-            Ok(Asked { queries, shots, draws: Some(Box::new(draws)) })
-        }
-        (Some(file), shots) => {
-            let (shots, draws) = from_file(file, shots, n)?;
-            Ok(Asked { queries, shots, draws: Some(Box::new(draws.into_iter())) })
-        }
-    }
+    Ok(())
 }
 
-/// The draws of a file, and how many shots they are for.
-fn from_file(file: &str, shots: Option<usize>, n: usize) -> Result<(usize, Vec<f64>), String> {
-    let text = String::from_utf8(contents(file)?).map_err(|_| format!("{file}: no text"))?;
-    let draws = draws::read(&text).map_err(|fault| format!("{file}: {fault}"))?;
-    let shots = shots.unwrap_or(draws.len() / n.max(1));
-    if draws.len() < n * shots {
-        let have = draws.len();
-        return Err(format!("{file}: {have} draws, and {shots} shots need {}", n * shots));
-    }
-    Ok((shots, draws))
-}
+type Draws = Box<dyn Iterator<Item = f64>>;
 
-/// Tells of long sampling: once a second, on one line of a terminal.
-fn progress(shots: usize) -> impl FnMut(usize) {
-    let terminal = std::io::stderr().is_terminal();
-    let mut told = Instant::now();
-    let mut any = false;
-    move |done| {
-        if told.elapsed().as_secs() >= 1 || (any && done == shots) {
-            let (start, end) = if terminal { ("\r", "") } else { ("", "\n") };
-            let end = if done == shots { "\n" } else { end };
-            eprint!("{start}shots: {done} of {shots}{end}");
-            told = Instant::now();
-            any = true;
-        }
-    }
-}
-
-/// The bytes of a file, or of standard input.
-fn contents(file: &str) -> Result<Vec<u8>, String> {
-    let mut bytes = vec![];
-    let read = match file {
-        "-" => std::io::stdin().read_to_end(&mut bytes).map(|_| ()),
-        _ => std::fs::read(file).map(|b| bytes = b),
+/// How many shots are wanted, and their draws.
+fn draws(options: &Options, source: &Source) -> Result<(Option<usize>, Draws), Stop> {
+    let Some(file) = &options.draws else {
+        return Ok((options.shots, Box::new(Splitmix64::new(options.seed.unwrap_or(0)))));
     };
-    read.map_err(|e| format!("{file}: cannot be read: {e}"))?;
-    Ok(bytes)
-}
-
-fn write(file: &str, bytes: &[u8]) -> Result<(), String> {
-    std::fs::write(file, bytes).map_err(|e| format!("{file}: cannot be written: {e}"))
-}
-
-/// Prints to standard output. That nobody reads on is no fault.
-fn print(text: &str) -> Result<(), String> {
-    match std::io::stdout().write_all(text.as_bytes()) {
-        Err(e) if e.kind() != std::io::ErrorKind::BrokenPipe => Err(format!("cannot print: {e}")),
-        _ => Ok(()),
+    let n = source.header().map_or(0, |h| usize::from(h.qubits));
+    let name = shown_name(file);
+    // One more than can be used tells that there are too many.
+    let most = options.shots.map_or(n.max(1) * MAX_SHOTS + 1, |shots| n * shots);
+    let draws = draws::read(opened(file)?, most).map_err(|fault| Stop::at(&name, fault))?;
+    let shots = options.shots.unwrap_or(draws.len() / n.max(1));
+    let have = draws.len();
+    if options.shots.is_none() && have == most {
+        return Err(format!("{name}: draws for over {MAX_SHOTS} shots; give --shots").into());
     }
+    if have < n * shots {
+        return Err(format!("{name}: {have} draws, and {shots} shots need {}", n * shots).into());
+    }
+    Ok((Some(shots), Box::new(draws.into_iter())))
+}
+
+/// Tells of long sampling that is not seen on the terminal: once a second, on one line of it.
+fn progress(wanted: usize) -> impl FnMut(&Portion) {
+    let seen = io::stdout().is_terminal() || !io::stderr().is_terminal();
+    let (mut told, mut any, mut done) = (Instant::now(), false, 0);
+    move |portion| {
+        done += portion.as_ref().map_or(0, Vec::len);
+        if !seen && (told.elapsed().as_secs() >= 1 || any && done == wanted) {
+            let end = if done == wanted { "\n" } else { "" };
+            let _ = write!(io::stderr(), "\rshots: {done} of {wanted}{end}");
+            (told, any) = (Instant::now(), true);
+        }
+    }
+}
+
+/// The name of a file, as far as it can be shown.
+fn shown_name(file: &OsStr) -> String {
+    if file == "-" {
+        return "standard input".into();
+    }
+    shown(&file.to_string_lossy())
+}
+
+/// A file to read, or standard input.
+fn opened(file: &OsStr) -> Result<Box<dyn Read>, String> {
+    if file == "-" {
+        return Ok(Box::new(io::stdin()));
+    }
+    let opened = File::open(file).map_err(|e| unreadable(file, e))?;
+    Ok(Box::new(BufReader::new(opened)))
+}
+
+/// The bytes of a list or a tape: if there are too many, one more than there may be.
+fn contents(file: &OsStr) -> Result<Vec<u8>, String> {
+    let mut bytes = vec![];
+    let read = opened(file)?.take(MOST_BYTES as u64 + 1).read_to_end(&mut bytes);
+    read.map_err(|e| unreadable(file, e)).map(|_| bytes)
+}
+
+fn unreadable(file: &OsStr, error: io::Error) -> String {
+    format!("{}: cannot be read: {error}", shown_name(file))
+}
+
+fn write(file: &OsStr, bytes: &[u8]) -> Result<(), String> {
+    std::fs::write(file, bytes).map_err(|e| format!("{}: cannot be written: {e}", shown_name(file)))
 }

@@ -2,6 +2,7 @@
 //! about it.
 
 use crate::engine::{Compiled, Engine, Refusal, MAX_GATES};
+use crate::job::Query;
 use crate::source::{Placed, Source};
 use crate::tape::Record;
 use crate::wording::{are, count};
@@ -68,14 +69,13 @@ fn why_no_tape(number: u64, source: &Source, record: Option<&Placed>) -> String 
         }
         7 => "a gate names the same qubit twice".into(),
         8 => "an entry of the matrix is not finite, or its magnitude is above 2".into(),
-        _ => lent_too_little(number),
+        _ => tools_fault(number),
     }
 }
 
-fn lent_too_little(number: u64) -> String {
-    format!(
-        "the tool lent the engine too little room (question {number}), which is the tool's fault"
-    )
+/// Questions that have no for an answer only if the tool asks them wrongly.
+pub fn tools_fault(number: u64) -> String {
+    format!("the tool asked the engine wrongly (question {number}), which is the tool's fault")
 }
 
 /// Questions 11 to 15.
@@ -100,7 +100,7 @@ fn why_not_run(number: u64, source: &Source, compiled: &Compiled) -> String {
             let (need, limit) = source.header().map_or((0, 0), |h| (h.covariance_bytes(), h.limit));
             format!("the covariance matrix needs {need} bytes, and the limit is {limit}")
         }
-        _ => lent_too_little(number),
+        _ => tools_fault(number),
     }
 }
 
@@ -153,13 +153,53 @@ fn stops_at(source: &Source, engine: &dyn Engine) -> (Option<String>, Option<usi
     )
 }
 
+/// Whether a refusal is a fault of the list or the tape itself, or of the tool, and not the engine's verdict on a circuit.
+pub fn is_fault(refusal: Refusal) -> bool {
+    !(11..=14).contains(&refusal.number)
+}
+
 /// Why a question about an accepted run was refused.
-pub fn query_refused(refusal: Refusal, n: usize) -> String {
-    let place = refusal.place + 1;
+pub fn query_refused(query: &Query, refusal: Refusal, n: usize) -> String {
+    match (refusal.number, query) {
+        (18, Query::Marginal(parts)) => match parts.iter().find(|(_, bit)| *bit > 1) {
+            Some((qubit, bit)) => format!("bit {bit} of qubit {qubit} is neither 0 nor 1"),
+            None => tools_fault(18),
+        },
+        (19, Query::Product(_) | Query::Marginal(_)) => {
+            let place = usize::try_from(refusal.place).ok();
+            match place.and_then(|place| query.qubits().nth(place)) {
+                Some(qubit) => format!("qubit {qubit} is not below {n}"),
+                None => tools_fault(19),
+            }
+        }
+        (number, _) => tools_fault(number),
+    }
+}
+
+/// Why shots were refused.
+pub fn shots_refused(refusal: Refusal) -> String {
     match refusal.number {
-        18 => "as many bits as qubits are needed, each 0 or 1".into(),
-        19 => format!("qubit {place} of the list is not below {n}"),
-        22 => format!("draw {place} is not from 0 and below 1"),
-        number => lent_too_little(number),
+        22 => format!("draw {} is not from 0 and below 1", refusal.place + 1),
+        number => tools_fault(number),
+    }
+}
+
+#[cfg(test)]
+mod tests {
+    use super::*;
+
+    #[test]
+    fn a_refused_question_names_its_qubit() {
+        let refusal = |number, place| Refusal { number, place };
+        let product = Query::Product(vec![0, 9]);
+        assert_eq!(query_refused(&product, refusal(19, 1), 4), "qubit 9 is not below 4");
+        let marginal = Query::Marginal(vec![(0, 1), (7, 2)]);
+        assert_eq!(query_refused(&marginal, refusal(19, 1), 4), "qubit 7 is not below 4");
+        let bit = "bit 2 of qubit 7 is neither 0 nor 1";
+        assert_eq!(query_refused(&marginal, refusal(18, 0), 8), bit);
+        assert_eq!(shots_refused(refusal(22, 250)), "draw 251 is not from 0 and below 1");
+        for odd in [refusal(19, 5), refusal(20, 0), refusal(99, 0)] {
+            assert!(query_refused(&product, odd, 4).ends_with("which is the tool's fault"));
+        }
     }
 }

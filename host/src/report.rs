@@ -1,22 +1,32 @@
 //! The outcome in words.
 
 use crate::engine::{Compiled, Operation, Ordering, Report};
-use crate::job::{Answers, Outcome, Query};
-use crate::refusals::{query_refused, Explained};
-use crate::source::Source;
+use crate::job::{Answers, Outcome, Portion, Query};
+use crate::refusals::{query_refused, shots_refused, Explained};
+use crate::source::{Placed, Source};
 use crate::wording::{are, count, wrapped};
 use std::fmt::Write;
+use std::io;
 
 /// What the text is about, besides the outcome.
 pub struct Context<'a> {
     pub source: &'a Source,
     pub queries: &'a [Query],
-    /// Where the shots' draws come from.
+    /// How many shots are wanted, and where their draws come from.
+    pub shots: Option<usize>,
     pub draws: &'a str,
     pub digits: usize,
 }
 
-/// The whole report.
+impl Context<'_> {
+    /// Whether every answer is exactly the bit register's: the register claim, which is about the gates of the list and
+    /// a run that was accepted.
+    pub fn is_exact(&self, outcome: &Outcome) -> bool {
+        self.source.is_register() && outcome.answers.is_ok()
+    }
+}
+
+/// The whole report but for the shots.
 pub fn words(context: &Context, outcome: &Outcome) -> String {
     let mut out = format!("{}\n", title(context.source));
     match (&outcome.answers, &outcome.compiled) {
@@ -38,6 +48,39 @@ pub fn words(context: &Context, outcome: &Outcome) -> String {
     out
 }
 
+/// Prints shots as they come. The answer is false if a portion was refused.
+pub fn shots(
+    out: &mut dyn io::Write,
+    context: &Context,
+    n: usize,
+    portions: &mut dyn Iterator<Item = Portion>,
+) -> io::Result<bool> {
+    let Some(wanted) = context.shots else { return Ok(true) };
+    let many = count(wanted as u64, "shot");
+    let head = format!("\n{many} from {}, qubit 0 first\n", context.draws);
+    out.write_all(head.as_bytes())?;
+    for portion in portions {
+        let (text, refused) = match portion {
+            Ok(shots) => (shots.iter().map(|s| bits(*s, n) + "\n").collect(), false),
+            Err(r) => (format!("refused: {}\n", shots_refused(r)), true),
+        };
+        out.write_all(text.as_bytes())?;
+        if refused {
+            return Ok(false);
+        }
+    }
+    Ok(true)
+}
+
+/// What to warn of: given matrices that are not unitary. Each warning begins with its place.
+pub fn warnings(source: &Source) -> Vec<String> {
+    let one = |(placed, off): (&Placed, f64)| {
+        let place = placed.place();
+        format!("{place}: the matrix is not unitary (off by {off:.1e}); it is run as it is")
+    };
+    source.not_unitary().into_iter().map(one).collect()
+}
+
 /// File, qubits, gates.
 pub fn title(source: &Source) -> String {
     let n = source.header().map_or(0, |h| h.qubits);
@@ -51,7 +94,10 @@ pub fn title(source: &Source) -> String {
 /// What it means that the run was accepted.
 pub fn accepted(r: &Report) -> String {
     match r.interactions {
-        0 => format!("accepted: the circuit is free-fermion ({} Gaussian)", all_blocks(r.blocks)),
+        0 => format!(
+            "accepted: free-fermion within the tolerance ({} Gaussian)",
+            all_blocks(r.blocks)
+        ),
         k => format!("accepted, but {} {} left out", count(k, "interaction"), are(k)),
     }
 }
@@ -100,8 +146,7 @@ fn found(source: &Source, compiled: &Compiled) -> String {
     item(&mut out, "blocks", &blocks(r));
     let tolerance = source.header().map_or(0.0, |h| h.tolerance);
     item(&mut out, "residual", &format!("{} (tolerance {tolerance:e})", residual(r.max_residual)));
-    let number = if r.number_conserving { "conserved by every block" } else { "not conserved" };
-    item(&mut out, "number", number);
+    item(&mut out, "number", &number(compiled));
     if r.interactions > 0 {
         item(&mut out, "interactions", &interactions(compiled));
     }
@@ -127,10 +172,29 @@ pub fn blocks(r: &Report) -> String {
     text
 }
 
+/// Whether the blocks keep the number of ones, as far as it was tested.
+fn number(compiled: &Compiled) -> String {
+    let r = &compiled.report;
+    let untested = "diagonal ones on two qubits are not";
+    match (compiled.number_conserving(), compiled.number_tested()) {
+        (Some(false), _) => "not conserved by some block".into(),
+        (_, None) => "not told: bad blocks are not tested for it".into(),
+        (_, Some(0)) if r.blocks == 0 => "not tested: there is no block".into(),
+        (_, Some(0)) => format!("not tested: no block was ({untested})"),
+        (_, Some(k)) if k == r.blocks => "conserved by every block, within 1e-9".into(),
+        (_, Some(k)) => {
+            format!(
+                "conserved within 1e-9 by the {k} of {} blocks that were tested ({untested})",
+                r.blocks
+            )
+        }
+    }
+}
+
 /// The largest residual: a small one as a power of ten, for its digits are noise of rounding.
 fn residual(r: f64) -> String {
     if r == 0.0 {
-        return "exactly 0".into();
+        return "0".into();
     }
     let power = (-16..=-3).find(|k| r <= 10f64.powi(*k));
     power.map_or(format!("{r:.3}"), |k| format!("at most 1e{k}"))
@@ -176,22 +240,24 @@ pub fn order(r: &Report) -> String {
 
 fn angled(r: &Report) -> &'static str {
     match r.angled {
-        false => "no: the original Rust engine gives the same bits",
+        false => "no: compare with the original Rust engine bit by bit",
         true => "yes, a diagonal block was tried: compare with the original within 1e-9",
     }
 }
 
-/// Whether a number is exactly 1, -1 or 0.
-pub fn is_exact(x: f64) -> bool {
+/// Whether a float is 1, -1 or 0.
+fn is_whole(x: f64) -> bool {
     x == 0.0 || x.abs() == 1.0
 }
 
-/// An expectation: exact ones without digits after the point.
+/// An expectation: a float that is 1, -1 or 0 without digits after the point, and one that is none (a given matrix need not
+/// be unitary) with a power of ten.
 pub fn expectation(x: f64, digits: usize) -> String {
     match x {
         0.0 => "0".into(),
         1.0 => "+1".into(),
         -1.0 => "-1".into(),
+        x if x.abs() >= 1e4 => format!("{x:+.digits$e}"),
         _ => format!("{x:+.digits$}"),
     }
 }
@@ -201,7 +267,7 @@ fn probability(x: f64, digits: usize) -> String {
     match x {
         0.0 => "0".into(),
         1.0 => "1".into(),
-        x if x < 1e-4 => format!("{x:.digits$e}"),
+        x if x < 1e-4 || x >= 1e4 => format!("{x:.digits$e}"),
         _ => format!("{x:.digits$}"),
     }
 }
@@ -211,11 +277,13 @@ fn parities(r: &Report, answers: &Answers, digits: usize) -> String {
     let wide = digits + 4;
     let mut out = format!("\nqubit  mode  {:>wide$}\n", "Z");
     for (q, z) in answers.parities.iter().enumerate() {
-        let text = expectation(*z, digits);
-        // Exact numbers stand with their last digit where the others have their first.
-        let text =
-            if is_exact(*z) { format!("{text:>3}{:w$}  exact", "", w = wide - 3) } else { text };
-        let _ = writeln!(out, "{q:5}  {:4}  {text:>wide$}", r.modes[q]);
+        let mut text = expectation(*z, digits);
+        // A number without digits after the point stands with its last digit where the others have their first.
+        if is_whole(*z) {
+            text = format!("{text:>3}{:w$}", "", w = wide - 3);
+        }
+        let line = format!("{q:5}  {:4}  {text:>wide$}", r.modes[q]);
+        let _ = writeln!(out, "{}", line.trim_end());
     }
     out
 }
@@ -241,11 +309,13 @@ pub fn caveat(source: &Source, r: &Report) -> Option<&'static str> {
 }
 
 /// Said of register lists.
-const REGISTER: &str = "Every gate is one of I X Y Z S Sdg Swap ISwap ISwapdg: it is proved that \
-    every answer is that of a bit register fed the same gates.";
+const REGISTER: &str =
+    "exact: every gate is one of I X Y Z S Sdg Swap ISwap ISwapdg, and of such a \
+    list it is proved that every answer is exactly that of a bit register fed the same gates.";
 /// Said of all others.
-const ROUNDED: &str = "exact: the number is exactly 1, -1 or 0. The others are rounded; the \
-    arithmetic is proved to be that of the definition, and no bound on its rounding is.";
+const ROUNDED: &str = "rounded: the arithmetic is proved to be that of the definition, and no bound \
+    on its rounding is. +1, -1 and 0 without digits after the point are floats with that value; the \
+    true value may lie beside it.";
 /// Said where interactions were left out.
 const FREE_PART: &str =
     "The answers are those of the free part, without the interactions, and not \
@@ -257,29 +327,16 @@ fn replies(context: &Context, answers: &Answers) -> String {
     let mut out = String::new();
     for (query, answer) in context.queries.iter().zip(&answers.queries) {
         let text = match (answer, query) {
-            (Err(refusal), _) => format!("refused: {}", query_refused(*refusal, n)),
-            (Ok(x), Query::Product(_)) => marked(expectation(*x, context.digits), *x),
-            (Ok(x), _) => marked(probability(*x, context.digits), *x),
+            (Err(refusal), _) => format!("refused: {}", query_refused(query, *refusal, n)),
+            (Ok(x), Query::Product(_)) => expectation(*x, context.digits),
+            (Ok(x), _) => probability(*x, context.digits),
         };
         let _ = writeln!(out, "{} {}: {text}", query.kind(), query.text());
     }
     if !out.is_empty() {
         out.insert(0, '\n');
     }
-    match &answers.shots {
-        None => {}
-        Some(Err(r)) => out += &format!("\nshots: refused: {}\n", query_refused(*r, n)),
-        Some(Ok(shots)) => {
-            let many = count(shots.len() as u64, "shot");
-            let _ = writeln!(out, "\n{many} from {}, qubit 0 first", context.draws);
-            shots.iter().for_each(|s| out += &format!("{}\n", bits(*s, n)));
-        }
-    }
     out
-}
-
-fn marked(text: String, x: f64) -> String {
-    format!("{text}{}", if is_exact(x) { "  exact" } else { "" })
 }
 
 /// The bits of a basis index, qubit 0 first.
@@ -290,15 +347,29 @@ pub fn bits(index: u128, n: usize) -> String {
 #[cfg(test)]
 mod tests {
     use super::*;
-    use crate::engine::fake::Fake;
-    use crate::job::{self, Asked};
+    use crate::engine::{fake::Fake, Engine};
+    use crate::job::{self, Shots};
+
+    const LIST: &str = "qubits 3\nh 0\nx 1\n";
+    const REGISTER_LIST: &str = "qubits 3\nx 0\nswap 1 2\n";
+
+    fn told_of(list: &str, fake: &Fake, queries: &[Query]) -> String {
+        let source = Source::read("f", list.into(), &[]).expect("a list");
+        let outcome = job::run(&source, queries, fake).expect("an outcome");
+        let context =
+            Context { source: &source, queries, shots: Some(1), draws: "a file", digits: 4 };
+        assert_eq!(context.is_exact(&outcome), list == REGISTER_LIST && outcome.answers.is_ok());
+        let mut out = words(&context, &outcome).into_bytes();
+        if let Ok(answers) = &outcome.answers {
+            let draws = Box::new([0.7, 0.1, 0.5].into_iter());
+            let mut portions = Shots::new(fake, &answers.state, 1, draws);
+            shots(&mut out, &context, 3, &mut portions).expect("room");
+        }
+        String::from_utf8(out).expect("text")
+    }
 
     fn told(fake: &Fake, queries: &[Query]) -> String {
-        let source = Source::read("f", "qubits 3\nh 0\nx 1\n".into(), &[]).expect("a list");
-        let draws = Box::new([0.7, 0.1, 0.5].into_iter());
-        let asked = Asked { queries: queries.to_vec(), shots: 1, draws: Some(draws) };
-        let outcome = job::run(&source, asked, fake, &mut |_| ());
-        words(&Context { source: &source, queries, draws: "a file", digits: 4 }, &outcome)
+        told_of(LIST, fake, queries)
     }
 
     #[test]
@@ -312,17 +383,107 @@ mod tests {
         let text = told(&Fake::accepting(&[-1.0, 0.25, -0.0]), &queries);
         for line in [
             "f: 3 qubits, 2 gates\n",
-            "accepted: the circuit is free-fermion (all 3 blocks are Gaussian)\n",
+            "accepted: free-fermion within the tolerance (all 3 blocks are Gaussian)\n",
             "residual      at most 1e-15 (tolerance 1e-10)\n",
-            "    0     0   -1       exact\n    1     1   +0.2500\n    2     2    0       exact\n",
+            "    0     0   -1\n    1     1   +0.2500\n    2     2    0\n",
             "product 0,1: -0.2500\n",
-            "product 0,3: refused: qubit 2 of the list is not below 3\n",
+            "product 0,3: refused: qubit 3 is not below 3\n",
             "marginal 0=1: 1.2500e-7\n",
-            "index 010: 1  exact\n",
+            "index 010: 1\n",
             "1 shot from a file, qubit 0 first\n101\n",
         ] {
             assert!(text.contains(line), "{line}\n{text}");
         }
+    }
+
+    #[test]
+    fn exact_is_said_of_register_lists_only() {
+        let mut fake = Fake::accepting(&[1.0, -1.0, 0.0]);
+        fake.compiled.report.max_residual = 0.0;
+        let queries = [Query::Product(vec![0])];
+        let register = told_of(REGISTER_LIST, &fake, &queries);
+        assert!(
+            register.contains("\ntrust         exact: every gate is one of I X Y"),
+            "{register}"
+        );
+        assert!(!register.contains("rounded"), "{register}");
+        let other = told(&fake, &queries);
+        assert!(other.contains("\ntrust         rounded: "), "{other}");
+        assert!(
+            other.contains("residual      0 (") && other.contains("product 0: +1\n"),
+            "{other}"
+        );
+        assert!(!other.contains("exact"), "{other}");
+        let refused = told_of(REGISTER_LIST, &Fake::refusing(3, 14, 0), &[]);
+        assert!(!refused.contains("exact"), "{refused}");
+    }
+
+    #[test]
+    fn the_number_is_conserved_where_it_was_tested() {
+        // 1 block on one qubit and 2 matchgates, unless told otherwise
+        let said = |change: &dyn Fn(&mut Compiled)| {
+            let mut fake = Fake::accepting(&[1.0; 3]);
+            change(&mut fake.compiled);
+            told(&fake, &[])
+        };
+        let is = |text: String, want: &str| {
+            assert!(text.contains(&format!("number        {want}\n")), "{want}\n{text}")
+        };
+        is(said(&|_| ()), "conserved by every block, within 1e-9");
+        is(said(&|c| c.report.number_conserving = false), "not conserved by some block");
+        is(said(&|c| c.report.bad = 1), "not told: bad blocks are not tested for it");
+        let diagonal = |c: &mut Compiled| {
+            c.operations.retain(|o| !matches!(o, Operation::Two { .. }));
+        };
+        let part =
+            "conserved within 1e-9 by the 1 of 3 blocks that were tested (diagonal ones on two\n\
+                    \x20             qubits are not)";
+        is(said(&diagonal), part);
+        let none = |c: &mut Compiled| {
+            diagonal(c);
+            (c.report.blocks, c.report.gaussian) = (2, 2);
+        };
+        is(said(&none), "not tested: no block was (diagonal ones on two qubits are not)");
+        let empty = |c: &mut Compiled| {
+            c.operations.clear();
+            (c.report.blocks, c.report.two_qubit) = (0, 0);
+        };
+        is(said(&empty), "not tested: there is no block");
+    }
+
+    #[test]
+    fn shots_are_written_as_they_come() {
+        let fake = Fake::accepting(&[1.0; 3]);
+        let source = Source::read("f", LIST.into(), &[]).expect("a list");
+        let state = fake.run(&source.tape).expect("a run").state;
+        let context =
+            Context { source: &source, queries: &[], shots: Some(150), draws: "f", digits: 4 };
+        // A writer with room for the head and one portion: no further portion may be asked for.
+        let mut room = [0u8; 300];
+        let mut asked = 0;
+        let draws = Box::new(std::iter::repeat(0.5));
+        let mut portions = Shots::new(&fake, &state, 150, draws).inspect(|_| asked += 1);
+        let full = shots(&mut &mut room[..], &context, 3, &mut portions).expect_err("no room");
+        assert_eq!(full.kind(), io::ErrorKind::WriteZero);
+        assert_eq!(asked, 2);
+    }
+
+    #[test]
+    fn numbers_that_are_no_expectations() {
+        for (x, want) in [(-1.5e300, "-1.5000e300"), (f64::NAN, "NaN"), (f64::INFINITY, "+inf")] {
+            assert_eq!(expectation(x, 4), want);
+        }
+        assert_eq!(probability(3e200, 2), "3.00e200");
+    }
+
+    #[test]
+    fn warnings_begin_with_their_place() {
+        let list = "qubits 1\nmatrix 0 1,0 0,0 0,0 0.5,0\n";
+        let source = Source::read("f", list.into(), &[]).expect("a list");
+        let want = "line 2: the matrix is not unitary (off by 7.5e-1); it is run as it is";
+        assert_eq!(warnings(&source), [want]);
+        let tape = Source::read("f", source.tape, &[]).expect("a tape");
+        assert!(warnings(&tape)[0].starts_with("gate 1 (byte 20): "));
     }
 
     #[test]

@@ -1,9 +1,15 @@
 //! What the tool was given: a gate list or a tape, as bytes for the engine, with the line or the
 //! offset of each record.
 
+use crate::engine::MAX_GATES;
+use crate::fault::Fault;
 use crate::gates;
 use crate::list::{self, List, Setting};
 use crate::tape::{record_at, Header, Record, HEADER_BYTES, HEADER_MARK};
+use crate::text;
+
+/// Most bytes of a list or a tape: several times what the largest gates fill, so that a file given by mistake takes no room.
+pub const MOST_BYTES: usize = 4 << 20;
 
 /// A record, its offset on the tape, and its line if it came from a list.
 #[derive(Debug, PartialEq)]
@@ -13,6 +19,8 @@ pub struct Placed {
     pub record: Record,
     /// Its number among the gates, from 1; 0 for a label.
     pub gate: usize,
+    /// Its words on the list.
+    written: Option<String>,
 }
 
 impl Placed {
@@ -32,57 +40,65 @@ pub struct Source {
     /// The file's name, as it was given.
     pub name: String,
     pub tape: Vec<u8>,
+    /// Of a tape only as far as they are whole, and up to the first gate too many.
     pub records: Vec<Placed>,
-    /// The text of each line, of a list.
-    lines: Vec<String>,
+    gates: usize,
 }
 
 impl Source {
     /// Reads the contents of a file.
-    pub fn read(name: &str, contents: Vec<u8>, settings: &[Setting]) -> Result<Source, String> {
+    pub fn read(name: &str, contents: Vec<u8>, settings: &[Setting]) -> Result<Source, Fault> {
+        if contents.len() > MOST_BYTES {
+            return Err(Fault::whole(format!("the file has over {MOST_BYTES} bytes")));
+        }
         if contents.starts_with(&HEADER_MARK) {
             return Source::from_tape(name, contents, settings);
         }
-        let neither =
-            |_| "neither a gate list (text) nor a tape (bytes that begin 51 48)".to_string();
-        let text = String::from_utf8(contents).map_err(neither)?;
-        let list = list::read(&text, settings).map_err(|fault| fault.to_string())?;
+        let text = text::decode(contents)?;
+        let list = list::read(&text, settings)?;
         Ok(Source::from_list(name, &list, &text))
     }
 
+    fn empty(name: &str, tape: Vec<u8>) -> Source {
+        Source { name: name.to_string(), tape, records: vec![], gates: 0 }
+    }
+
     fn from_list(name: &str, list: &List, text: &str) -> Source {
-        let mut source = Source {
-            name: name.to_string(),
-            tape: list.header.bytes(),
-            records: vec![],
-            lines: text.lines().map(|l| l.trim().to_string()).collect(),
-        };
+        let mut source = Source::empty(name, list.header.bytes());
+        let mut lines = (1..).zip(text.lines());
         for (line, record) in &list.records {
-            source.push(Some(*line), record.clone());
+            let written = lines.by_ref().find(|(i, _)| i == line).map(|(_, text)| text);
+            source.push(Some(*line), record.clone(), written);
             source.tape.extend(record.bytes());
         }
         source
     }
 
-    /// A tape is kept as it is but for the caller's settings. Its records are read as far as they
-    /// are whole.
-    fn from_tape(name: &str, tape: Vec<u8>, settings: &[Setting]) -> Result<Source, String> {
-        let mut source = Source { name: name.to_string(), tape, records: vec![], lines: vec![] };
+    /// A tape is kept as it is but for the caller's settings.
+    fn from_tape(name: &str, tape: Vec<u8>, settings: &[Setting]) -> Result<Source, Fault> {
+        let mut source = Source::empty(name, tape);
         if let Some(mut header) = Header::read(&source.tape).filter(|_| !settings.is_empty()) {
-            list::set_all(&mut header, settings)?;
+            list::set_all(&mut header, settings).map_err(Fault::whole)?;
             source.tape[..HEADER_BYTES].copy_from_slice(&header.bytes());
         }
-        while let Some(record) = record_at(&source.tape, source.end()) {
-            source.push(None, record);
+        while source.gates <= MAX_GATES {
+            let Some(record) = record_at(&source.tape, source.end()) else { break };
+            source.push(None, record, None);
         }
         Ok(source)
     }
 
     /// Notes the record that comes next.
-    fn push(&mut self, line: Option<usize>, record: Record) {
-        let gate = if matches!(record, Record::Gate { .. }) { self.gates() + 1 } else { 0 };
-        let placed = Placed { offset: self.end(), line, record, gate };
-        self.records.push(placed);
+    fn push(&mut self, line: Option<usize>, record: Record, written: Option<&str>) {
+        let is_gate = matches!(record, Record::Gate { .. });
+        self.gates += usize::from(is_gate);
+        let gate = if is_gate { self.gates } else { 0 };
+        let written = written.filter(|_| is_gate).map(|text| {
+            let words: Vec<_> = text.split('#').next().unwrap_or("").split_whitespace().collect();
+            words.join(" ")
+        });
+        let offset = self.end();
+        self.records.push(Placed { offset, line, record, gate, written });
     }
 
     /// Where the records end.
@@ -96,7 +112,7 @@ impl Source {
     }
 
     pub fn gates(&self) -> usize {
-        self.records.iter().rev().map(|p| p.gate).find(|k| *k > 0).unwrap_or(0)
+        self.gates
     }
 
     pub fn labels(&self) -> usize {
@@ -122,14 +138,19 @@ impl Source {
         self.records.iter().find(|p| p.gate == k && k > 0)
     }
 
-    /// The record as it was written: the list's line without its comment, or its text.
+    /// The record as it was written: the words of the list's line, or its text.
     pub fn text(&self, placed: &Placed) -> String {
-        match placed.line {
-            Some(line) if placed.gate > 0 => {
-                self.lines[line - 1].split('#').next().unwrap_or("").trim().to_string()
-            }
-            _ => placed.record.text(),
-        }
+        placed.written.clone().unwrap_or_else(|| placed.record.text())
+    }
+
+    /// Where the given matrices are that are not unitary, and by how much.
+    pub fn not_unitary(&self) -> Vec<(&Placed, f64)> {
+        let off = |p: &Placed| match &p.record {
+            Record::Gate { entries, .. } => gates::off_unitary(entries),
+            Record::Label(_) => 0.0,
+        };
+        let records = self.records.iter().map(|p| (p, off(p)));
+        records.filter(|(_, off)| *off > gates::UNITARY).collect()
     }
 
     /// The tape of the first k gates and what stands between them.
@@ -153,8 +174,9 @@ impl Source {
             out.push('\n');
         }
         match self.end() {
-            end if end < self.tape.len() => Err(format!("{out}# byte {end}: no whole record")),
-            _ => Ok(out),
+            end if end == self.tape.len() => Ok(out),
+            end if self.gates > MAX_GATES => Err(format!("{out}# byte {end}: gates are left out")),
+            end => Err(format!("{out}# byte {end}: no whole record")),
         }
     }
 }
@@ -199,6 +221,36 @@ mod tests {
         let t = source(&s.tape[..s.tape.len() - 1]);
         assert!(t.dump().expect_err("cut").ends_with("# byte 100: no whole record"));
         assert!(source(b"QH").dump().is_err());
+    }
+
+    #[test]
+    fn a_tape_with_gates_too_many_is_read_so_far() {
+        let list = format!("qubits 1\n{}", "x 0\n".repeat(MAX_GATES));
+        let mut tape = source(list.as_bytes()).tape;
+        let gate = tape[HEADER_BYTES..HEADER_BYTES + 4].to_vec();
+        tape.extend(gate.repeat(5));
+        let t = source(&tape);
+        assert_eq!((t.gates(), t.records.len(), t.is_register()), (1025, 1025, false));
+        assert!(t.dump().expect_err("too many").ends_with("# byte 4120: gates are left out"));
+    }
+
+    #[test]
+    fn a_file_given_by_mistake() {
+        let big = Source::read("f", vec![b'#'; MOST_BYTES + 1], &[]).expect_err("too big");
+        assert_eq!(big.to_string(), "the file has over 4194304 bytes");
+        let most = vec![b'#'; MOST_BYTES];
+        assert!(Source::read("f", most, &[]).expect_err("no list").reason.starts_with("there is"));
+    }
+
+    #[test]
+    fn matrices_that_are_not_unitary() {
+        let text = "qubits 2\nrx 0 0.3\nmatrix 1 1,0 0,0 0,0 1.000000001,0\n\
+                    matrix 0 0.6,0 0.8,0 -0.8,0 0.6,0\nmatrix 0 1,0 0,0 0,0 0.5,0\n";
+        let s = source(text.as_bytes());
+        let found: Vec<_> = s.not_unitary().iter().map(|(p, off)| (p.line, *off)).collect();
+        assert_eq!(found[0].0, Some(3));
+        assert_eq!(found[1], (Some(5), 0.75));
+        assert_eq!(found.len(), 2);
     }
 
     #[test]

@@ -1,11 +1,12 @@
 //! The outcome as a picture to print: an A4 sheet with the wires in their order and the blocks on
 //! them in time, and beside it a bar for the parity of each qubit. Black on white: patterns, not
-//! colours, tell exact, rounded and refused values apart. Units are points; no text is below 9.
+//! colours, tell exact values (of register lists), rounded and refused ones apart. Units are points;
+//! no text is below 9.
 
 use crate::engine::{Operation, Report};
 use crate::job::Outcome;
-use crate::report::{self, accepted, blocks, expectation, is_exact, Context};
-use crate::wording::wrapped;
+use crate::report::{self, accepted, blocks, expectation, Context};
+use crate::wording::{shown, wrapped};
 use std::fmt::Write;
 
 const WIDTH: f64 = 595.0;
@@ -21,10 +22,11 @@ pub fn sheet(context: &Context, outcome: &Outcome) -> String {
     let top = head(&mut page, context, outcome);
     if let Some(compiled) = &outcome.compiled {
         let parities = outcome.answers.as_ref().ok().map(|a| a.parities.as_slice());
+        let fill = if context.is_exact(outcome) { SOLID } else { ROUNDED };
         let columns = columns(&compiled.report, top);
         for column in &columns {
             draw_order(&mut page, column, &compiled.report, &compiled.operations);
-            draw_parities(&mut page, column, parities);
+            draw_parities(&mut page, column, parities, fill);
         }
         legend(&mut page, columns[0].bottom() + 26.0);
     }
@@ -46,7 +48,8 @@ struct Page(String);
 
 impl Page {
     fn text(&mut self, x: f64, y: f64, size: f64, anchor: &str, text: &str) {
-        let text = text.replace('&', "&amp;").replace('<', "&lt;").replace('>', "&gt;");
+        // XML has no place for control characters, which names of files may have.
+        let text = shown(text).replace('&', "&amp;").replace('<', "&lt;").replace('>', "&gt;");
         let _ = writeln!(
             self.0,
             "<text x=\"{x:.1}\" y=\"{y:.1}\" font-size=\"{size}\" text-anchor=\"{anchor}\">{text}</text>"
@@ -107,6 +110,11 @@ fn head(page: &mut Page, context: &Context, outcome: &Outcome) -> f64 {
     }
     if let Some(compiled) = &outcome.compiled {
         lines.push(format!("blocks: {}", blocks(&compiled.report)));
+        let warnings = report::warnings(context.source);
+        lines.extend(warnings.first().map(|w| format!("warning: {w}")));
+        if warnings.len() > 1 {
+            lines.push(format!("more warnings: {}", warnings.len() - 1));
+        }
     }
     let mut y = 64.0;
     for line in lines.iter().flat_map(|l| wrapped(l, 98)) {
@@ -263,7 +271,7 @@ fn draw_block(page: &mut Page, o: &Operation, x: f64, width: f64, (low, high): (
 }
 
 /// A bar for each qubit; `None`: the run was refused, and there are no values.
-fn draw_parities(page: &mut Page, c: &Column, parities: Option<&[f64]>) {
+fn draw_parities(page: &mut Page, c: &Column, parities: Option<&[f64]>, fill: &str) {
     let (left, right) = c.bars;
     let (middle, half) = ((left + right) / 2.0, (right - left) / 2.0);
     page.text(c.qubit, c.top - 8.0, SMALL, "end", "qubit");
@@ -281,7 +289,7 @@ fn draw_parities(page: &mut Page, c: &Column, parities: Option<&[f64]>) {
                 "refused".to_string()
             }
             Some(z) => {
-                draw_bar(page, middle, half, y, high, z[q]);
+                draw_bar(page, (middle, y), (half, high), z[q], fill);
                 expectation(z[q], 4)
             }
         };
@@ -289,15 +297,15 @@ fn draw_parities(page: &mut Page, c: &Column, parities: Option<&[f64]>) {
     }
 }
 
-/// The bar of a value; an exact zero is a stroke.
-fn draw_bar(page: &mut Page, middle: f64, half: f64, y: f64, high: f64, z: f64) {
+/// The bar of a value around the zero of its row; a zero is a stroke.
+fn draw_bar(page: &mut Page, zero: (f64, f64), (half, high): (f64, f64), z: f64, fill: &str) {
     let length = half * z.clamp(-1.0, 1.0);
-    let style = if is_exact(z) { SOLID } else { ROUNDED };
+    let ((middle, y), top) = (zero, zero.1 - high / 2.0);
     match z {
         z if z.is_nan() => {}
-        0.0 => page.line((middle, y - high / 2.0), (middle, y + high / 2.0), BOLD),
-        z if z < 0.0 => page.rect(middle + length, y - high / 2.0, -length, high, style),
-        _ => page.rect(middle, y - high / 2.0, length, high, style),
+        0.0 => page.line((middle, top), (middle, y + high / 2.0), BOLD),
+        z if z < 0.0 => page.rect(middle + length, top, -length, high, fill),
+        _ => page.rect(middle, top, length, high, fill),
     }
 }
 
@@ -305,7 +313,7 @@ fn draw_bar(page: &mut Page, middle: f64, half: f64, y: f64, high: f64, z: f64) 
 fn legend(page: &mut Page, y: f64) {
     let z = y + 16.0;
     let mut entry = |x: f64, y: f64, text: &str| page.text(x + 26.0, y + 3.2, SMALL, "start", text);
-    entry(36.0, y, "exactly 1, -1 or 0");
+    entry(36.0, y, "exact: proved");
     entry(180.0, y, "rounded");
     entry(290.0, y, "refused: no value");
     entry(36.0, z, "map of one mode");
@@ -327,14 +335,18 @@ fn legend(page: &mut Page, y: f64) {
 mod tests {
     use super::*;
     use crate::engine::fake::Fake;
-    use crate::job::{self, Asked};
+    use crate::job;
     use crate::source::Source;
 
+    fn drawn_of(list: &str, fake: &Fake) -> String {
+        let source = Source::read("a<b\u{1}", list.into(), &[]).expect("a list");
+        let outcome = job::run(&source, &[], fake).expect("an outcome");
+        let context = Context { source: &source, queries: &[], shots: None, draws: "", digits: 9 };
+        sheet(&context, &outcome)
+    }
+
     fn drawn(fake: &Fake, n: usize) -> String {
-        let text = format!("qubits {n}\nh 0\n");
-        let source = Source::read("a<b", text.into(), &[]).expect("a list");
-        let outcome = job::run(&source, Asked::default(), fake, &mut |_| ());
-        sheet(&Context { source: &source, queries: &[], draws: "", digits: 9 }, &outcome)
+        drawn_of(&format!("qubits {n}\nh 0\n"), fake)
     }
 
     /// How many bars and swatches of a style there are.
@@ -346,11 +358,21 @@ mod tests {
 
     #[test]
     fn values_are_told_apart() {
-        let text = drawn(&Fake::accepting(&[1.0, 0.5, -1.0, 0.0]), 4);
-        assert_eq!((count(&text, SOLID), count(&text, ROUNDED), count(&text, NO_VALUE)), (3, 2, 1));
-        assert!(text.contains("a&lt;b: 4 qubits"));
-        let text = drawn(&Fake::refusing(4, 12, 0), 4);
-        assert_eq!((count(&text, SOLID), count(&text, ROUNDED), count(&text, NO_VALUE)), (1, 1, 5));
+        let count = |text: &str| [SOLID, ROUNDED, NO_VALUE].map(|style| count(text, style));
+        let fake = Fake::accepting(&[1.0, 0.5, -1.0, 0.0]);
+        let text = drawn(&fake, 4);
+        assert_eq!(count(&text), [1, 4, 1]);
+        assert!(text.contains("a&lt;b\u{FFFD}: 4 qubits"));
+        assert_eq!(count(&drawn_of("qubits 4\nx 0\n", &fake)), [4, 1, 1]);
+        assert_eq!(count(&drawn(&Fake::refusing(4, 12, 0), 4)), [1, 1, 5]);
+    }
+
+    #[test]
+    fn a_warning_stands_on_the_sheet() {
+        let list = "qubits 1\nmatrix 0 1,0 0,0 0,0 0,0\nmatrix 0 1,0 0,0 0,0 0,0\n";
+        let text = drawn_of(list, &Fake::accepting(&[1.0]));
+        assert!(text.contains(">warning: line 2: the matrix is not unitary"), "{text}");
+        assert!(text.contains(">more warnings: 1<"), "{text}");
     }
 
     #[test]

@@ -108,7 +108,8 @@ impl Record {
             Record::Gate { code, qubits, entries } => {
                 let name = gates::coded(*code).map_or("matrix", |k| k.name);
                 let qubits = qubits.iter().map(|q| format!(" {q}"));
-                let entries = entries.chunks(2).map(|z| format!(" {},{}", z[0], z[1]));
+                let entries =
+                    entries.chunks(2).map(|z| format!(" {},{}", decimal(z[0]), decimal(z[1])));
                 name.chars().map(String::from).chain(qubits).chain(entries).collect()
             }
             Record::Label(text) => {
@@ -118,6 +119,14 @@ impl Record {
             }
         }
     }
+}
+
+/// A number that reads back to the same: a small one with a power of ten, in place of hundreds of zeros.
+fn decimal(x: f64) -> String {
+    if x != 0.0 && x.abs() < 1e-4 {
+        return format!("{x:e}");
+    }
+    format!("{x}")
 }
 
 /// The record at an offset, if it is whole and has a known mark and code. Its length is that of its bytes.

@@ -1,4 +1,4 @@
-//! English: plurals and lines.
+//! English: plurals, lines, and what can be shown.
 
 /// `k things`, with the right ending.
 pub fn count(k: u64, thing: &str) -> String {
@@ -12,6 +12,11 @@ pub fn are(k: u64) -> &'static str {
     } else {
         "are"
     }
+}
+
+/// A text from outside for people to read: a control character, which could move the cursor, becomes a mark.
+pub fn shown(text: &str) -> String {
+    text.chars().map(|c| if c.is_control() { '\u{FFFD}' } else { c }).collect()
 }
 
 /// Breaks a text into lines of at most so many characters.
@@ -39,6 +44,11 @@ mod tests {
     fn plurals() {
         assert_eq!(format!("{} {}", count(1, "block"), are(1)), "1 block is");
         assert_eq!(format!("{} {}", count(0, "block"), are(0)), "0 blocks are");
+    }
+
+    #[test]
+    fn control_characters_do_not_show() {
+        assert_eq!(shown("a\u{1b}[2Jb\n\u{9b}ü"), "a\u{FFFD}[2Jb\u{FFFD}\u{FFFD}ü");
     }
 
     #[test]

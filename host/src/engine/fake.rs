@@ -8,6 +8,8 @@ pub struct Fake {
     pub number: Option<u64>,
     pub accepted: u64,
     pub parities: Vec<f64>,
+    /// Refuses every Z, which no engine may.
+    pub silent: bool,
 }
 
 impl Fake {
@@ -42,6 +44,7 @@ impl Fake {
             number: None,
             accepted: u64::MAX,
             parities: parities.to_vec(),
+            silent: false,
         }
     }
 
@@ -76,7 +79,10 @@ impl Engine for Fake {
     }
 
     fn expectation_z(&self, _: &State, qubit: usize) -> Result<f64, Refusal> {
-        Ok(self.parities[qubit])
+        match self.silent {
+            true => Err(Refusal { number: 19, place: 0 }),
+            false => Ok(self.parities[qubit]),
+        }
     }
 
     fn expectation_z_product(&self, state: &State, qubits: &[usize]) -> Result<f64, Refusal> {
