@@ -100,7 +100,7 @@ extern "C" {
 /*
  * Where label `which` (counted from 0) is. found (2): the offset of its first byte on the tape, and its length; 0 and 0 if
  * there is no such label or the tape is refused by one of 1 to 8. (No label begins at 0; one of length 0 has an offset.)
- * Returns 0.
+ * Returns 0, or JOZKERAL_NO_ROOM (99) if found has fewer than 2 places; no question is asked.
  */
 uint64_t jozkeral_label(const uint8_t *tape, size_t tape_len, size_t which, uint64_t *found, size_t found_len);
 
