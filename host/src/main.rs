@@ -51,19 +51,21 @@ impl From<io::Error> for Stop {
 fn main() -> ExitCode {
     let words: Vec<OsString> = std::env::args_os().skip(1).collect();
     let json = options::wants_json(&words);
-    let done = stdout::open().map_err(Stop::Print).and_then(|mut out| {
-        let done = work(words, &mut out);
-        if let (true, Err(Stop::Said(message, line))) = (json, &done) {
-            writeln!(out, "{}", json::fault(message, *line))?;
+    let status = stdout::open().and_then(|mut out| match work(words, &mut out) {
+        Ok(status) => Ok(status),
+        Err(Stop::Print(e)) => Err(e),
+        Err(Stop::Said(message, line)) => {
+            say(&message);
+            if json {
+                writeln!(out, "{}", json::fault(&message, line))?;
+            }
+            Ok(FAULT)
         }
-        done
     });
-    ExitCode::from(done.unwrap_or_else(|stop| {
-        match stop {
-            Stop::Said(message, _) => say(&message),
-            // The reader of a pipe has left because it has what it wanted.
-            Stop::Print(e) if e.kind() == io::ErrorKind::BrokenPipe => {}
-            Stop::Print(e) => say(&format!("cannot print: {e}")),
+    ExitCode::from(status.unwrap_or_else(|e| {
+        // The reader of a pipe leaves when it has what it wanted.
+        if e.kind() != io::ErrorKind::BrokenPipe {
+            say(&format!("cannot print: {e}"));
         }
         FAULT
     }))
