@@ -161,11 +161,12 @@ pub fn write(
     out.write_all(format!("{open},\n  \"draws\": {draws},\n  \"shots\": [").as_bytes())?;
     let (mut refused, mut comma) = (None, "");
     for portion in portions {
-        let mut lines = String::new();
-        for shot in portion.unwrap_or_else(|r| {
+        let shots = portion.unwrap_or_else(|r| {
             refused = Some(r);
             vec![]
-        }) {
+        });
+        let mut lines = String::new();
+        for shot in shots {
             lines += &format!("{comma}\n    \"{}\"", bits(shot, answers.parities.len()));
             comma = ",";
         }

@@ -55,6 +55,7 @@ fn main() -> ExitCode {
         Ok(status) => Ok(status),
         Err(Stop::Print(e)) => Err(e),
         Err(Stop::Said(message, line)) => {
+            let message = shown(&message);
             say(&message);
             if json {
                 writeln!(out, "{}", json::fault(&message, line))?;
