@@ -1,5 +1,5 @@
 //! The C symbols of libengine.a (include/jozkeral.h), each on slices in place of pointers and
-//! lengths. The only module with unsafe code; it needs no other, so that tests/abi and bench take the
+//! lengths. The only module here with unsafe code; it needs no other, so that tests/abi and bench take the
 //! file as it is. Every call here is sound for the same reason: a pointer passes with the length of
 //! its slice, the slices of one call do not overlap (Rust lends them apart), and the library keeps
 //! none of them.

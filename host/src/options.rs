@@ -121,22 +121,10 @@ impl Options {
     }
 }
 
-/// The options that stand alone, and those that have a value.
+/// The options that stand alone; those with a value that may be given again; those with a value that may not.
 const ALONE: [&str; 6] = ["--help", "-h", "--version", "-V", "--json", "--dump"];
-const VALUED: [&str; 10] = [
-    "--product",
-    "--marginal",
-    "--index",
-    "--set",
-    "--shots",
-    "--seed",
-    "--draws",
-    "--svg",
-    "--tape",
-    "--digits",
-];
-/// Of those the first so many may be given again.
-const REPEATED: usize = 4;
+const REPEATED: [&str; 4] = ["--product", "--marginal", "--index", "--set"];
+const ONCE: [&str; 6] = ["--shots", "--seed", "--draws", "--svg", "--tape", "--digits"];
 
 /// Whether the command line, which may be faulty, asks for JSON.
 pub fn wants_json(words: &[OsString]) -> bool {
@@ -165,8 +153,8 @@ pub fn read(words: impl IntoIterator<Item = OsString>) -> Result<Command, String
             (alone, Some(_)) if ALONE.contains(&alone) => {
                 return Err(format!("{alone} takes no value"));
             }
-            (valued, given) if VALUED.contains(&valued) => {
-                if VALUED[REPEATED..].contains(&valued) && seen.contains(&option) {
+            (valued, given) if REPEATED.contains(&valued) || ONCE.contains(&valued) => {
+                if ONCE.contains(&valued) && seen.contains(&option) {
                     return Err(format!("{valued} is given twice"));
                 }
                 // A word that begins so is the next option: this one was left without its value.
