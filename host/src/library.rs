@@ -1,8 +1,8 @@
 //! The C symbols of libengine.a (include/jozkeral.h), each on slices in place of pointers and
-//! lengths. The only module here with unsafe code; it needs no other, so that tests/abi and bench take the
-//! file as it is. Every call here is sound for the same reason: a pointer passes with the length of
-//! its slice, the slices of one call do not overlap (Rust lends them apart), and the library keeps
-//! none of them.
+//! lengths. This crate's only module with unsafe code; it needs no other, so that tests/abi and bench
+//! take the file as it is. Every call here is sound for the same reason: a pointer passes with the
+//! length of its slice, the slices of one call do not overlap (Rust lends them apart), and the library
+//! keeps none of them.
 
 /// Why a call was refused: the question that has no for an answer (its number, 1 to 22), and the
 /// place that it names.
