@@ -1,3 +1,4 @@
--- A law for the proofs of `classify`, and worked values of its definitions.
+-- Laws for the proofs of `classify` and of the crates above, and worked values of its definitions.
 pub mod Norms
+pub mod Angled
 mod Examples

@@ -1,6 +1,6 @@
 -- What a two-qubit block is (`classify2` of detect.rs): its tests in that order, with document 01's phase in the place of g. The answer has the kind with
 -- its residual, the matrix to apply, v (where `swap` is true the block is SWAP · v), and whether the block is angled. Assumes nothing.
-use mathlib.Core.Bool.{Bool, true, false, cond, _&&_, _||_}
+use mathlib.Core.Bool.{Bool, true, false, cond, not, _&&_, _||_}
 use Prim.Native.Nat.{ℕ}
 use lib.Ieee.{Float, le}
 use Rattle.num.specs.Order.{minOf}
@@ -51,6 +51,17 @@ classify2Of relabel tol u =
     cond (withoutPhaseOf tol (diagonalOf tol u) u) (class2 Diag false u true)
     (cond (le (residual2Of u) tol) (class2 (Match (residual2Of u)) false u (diagonalOf tol u))
     (cond relabel (swappedOf tol (diagonalOf tol u) (residual2Of u) u (swap4Of u)) (plainOf (diagonalOf tol u) (residual2Of u) u)))
+
+-- ---- whether the block is angled, by the tests alone
+
+-- 3. is reached: relabelling is on, and neither 1. nor 2. took the block
+unfoldable pub thirdOf : Bool → Float → Mat4 → Bool
+thirdOf relabel tol u = relabel && (not (withoutPhaseOf tol (diagonalOf tol u) u) && not (le (residual2Of u) tol))
+
+-- "The report's `angled` flag (added) is yes exactly if some candidate cut that was tried passed the off-diagonal test that 000 makes on it, plain or
+-- swapped": the plain test is made always, the swapped one, on SWAP · u, where 3. is reached
+unfoldable pub angledOf : Bool → Float → Mat4 → Bool
+angledOf relabel tol u = diagonalOf tol u || (thirdOf relabel tol u && diagonalOf tol (swap4Of u))
 
 -- ---- what a kind says
 
