@@ -1,6 +1,6 @@
 -- The flag of a class is `angledOf`: yes exactly if an off-diagonal test that 000 makes on the block passed. The flag goes through every choice of the
 -- classification, and what is left is a law of five tests. Assumes nothing.
-use mathlib.Core.Path.{_≡_, refl, _∙_}
+use mathlib.Core.Path.{_≡_, refl}
 use mathlib.Core.Bool.{Bool, true, false, cond, not, _&&_, _||_}
 use lib.Ieee.{Float, le}
 use Rattle.num.specs.Order.{minOf}

@@ -67,7 +67,7 @@ unitOf p = cond (lt f0 (normOf p) && finite (normOf p)) (cx (div binary64 (p .re
 unfoldable pub turnsOf : Complex → Bool
 turnsOf u = not (eq (u .im) f0 && lt f0 (u .re))
 
--- the rotation of a unit: the one-mode map of diag(1, unit), zero signs aside
+-- the rotation of a unit: the one-mode map of diag(1, unit), zero signs aside (law `rotation-is-map`)
 unfoldable pub rotationMapOf : Complex → Map2
 rotationMapOf u = map2 (real2 (u .re) (neg (u .im))) (real2 (u .im) (u .re))
 
