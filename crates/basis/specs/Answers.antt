@@ -1,5 +1,5 @@
 -- What the bit register answers "from its last bits and what a query asks" (document 01, "The bit register"). It refuses nothing: "it stands beside
--- accepted runs only". Assumes nothing.
+-- accepted runs only". Assumes nothing. A public promise rests on this.
 use mathlib.Core.Bool.{Bool, false, not, cond, _&&_, _||_}
 use mathlib.Core.List.{List, [], _∷_}
 use Prim.Native.Nat.{ℕ, zero, suc, _*_, _%_}

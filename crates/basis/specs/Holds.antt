@@ -1,5 +1,5 @@
 -- A state of the engine that is a basis state: the covariance of some bits, with postponed signs that no answer sees; and what the queries read of it.
--- Assumes nothing.
+-- Assumes nothing. Only inner functions rest on this.
 use mathlib.Core.Path.{_≡_}
 use mathlib.Core.Bool.{Bool, true}
 use mathlib.Core.List.{List}

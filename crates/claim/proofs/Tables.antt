@@ -54,7 +54,7 @@ module _ (t : List ℕ) (h : Header) (c : Content) (e : parse t ≡ accepted h c
       permutation-is (h .n) modes (lent .long)
       (λ q l. rw (lent .same q l) (mode-table-below h (c .gates) qubits-few (good-gates t h c e) q l))
       (λ p q k l f.
-          mode-table-apart h (c .gates) qubits-few (good-gates t h c e) p q k l (sym (lent .same p k) ∙ f ∙ lent .same q l))
+      mode-table-apart h (c .gates) qubits-few (good-gates t h c e) p q k l (sym (lent .same p k) ∙ f ∙ lent .same q l))
 
   pub table-permutes : isPermutation (h .n) (reportedOf h (c .gates) .modes) ≡ true
   table-permutes = lent-permutes (reportedOf h (c .gates) .modes) own-table

@@ -1,4 +1,5 @@
 -- What items do to the bits of the modes, given the mode of each wire: the same as to the bits of the wires. Assumes nothing.
+-- Only inner functions rest on this.
 use mathlib.Core.Bool.{Bool}
 use mathlib.Core.List.{List, [], _∷_}
 use Prim.Native.Nat.{ℕ}

@@ -1,5 +1,5 @@
 -- The queries of demand 3, "the calls just listed", each with what it asks and is lent; what the engine answers to a list of them, and what the bit
--- register answers. Definitions only.
+-- register answers. Definitions only. A public promise rests on this.
 use mathlib.Core.Path.{_≡_}
 use mathlib.Core.Bool.{Bool, true, not, cond, _&&_}
 use mathlib.Core.List.{List, [], _∷_}

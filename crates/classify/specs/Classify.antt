@@ -1,5 +1,6 @@
 -- What a two-qubit block is (`classify2` of detect.rs): its tests in that order, with document 01's phase in the place of g. The answer has the kind with
 -- its residual, the matrix to apply, v (where `swap` is true the block is SWAP · v), and whether the block is angled. Assumes nothing.
+-- A public promise rests on this.
 use mathlib.Core.Bool.{Bool, true, false, cond, not, _&&_, _||_}
 use Prim.Native.Nat.{ℕ}
 use lib.Ieee.{Float, le}

@@ -1,5 +1,6 @@
 -- Diagonal blocks (document 01, "Diagonal blocks"): the off-diagonal norm of detect.rs, p_a, p_b and w of a diagonal d0..d3, when the phase counts as
 -- none, the unit of a complex number, and the rotation that a wire gets. Every operation is one of f64, rounded. Assumes nothing.
+-- A public promise rests on this.
 use mathlib.Core.Bool.{Bool, cond, not, _&&_}
 use lib.Ieee.{Float, binary64, add, mul, div, neg, lt, le, eq}
 use lib.Ieee.Scale.{finite}

@@ -1,4 +1,4 @@
--- The word of the contract of an inner function. Assumes nothing.
+-- The word of the contract of an inner function. Assumes nothing. Only inner functions rest on this.
 use mathlib.Core.Bool.{Bool, _&&_}
 use lib.Ieee.{Float, lt}
 use lib.Ieee.Scale.{finite}

@@ -1,5 +1,5 @@
 -- The report and the operations of a tape that passes the questions 1 to 8 (000, `compile`): slots, items, order, modes, counts, program. What `compile`
--- asks, answers and leaves in the slices is in specs/Questions.antt. Assumes nothing.
+-- asks, answers and leaves in the slices is in specs/Questions.antt. Assumes nothing. A public promise rests on this.
 use mathlib.Core.Bool.{Bool, cond}
 use mathlib.Core.List.{List, [], _∷_, _++_}
 use Prim.Native.Nat.{ℕ, _/_, _%_}

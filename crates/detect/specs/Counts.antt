@@ -1,5 +1,5 @@
 -- The report's counts (000, the loop of `compile`): each item has its share, and the shares are summed in item order. "A report counts blocks = Gaussian +
--- bad + interactions, over the item list." Items are the newest first. Assumes nothing.
+-- bad + interactions, over the item list." Items are the newest first. Assumes nothing. A public promise rests on this.
 use mathlib.Core.Bool.{Bool, true, cond, _&&_}
 use mathlib.Core.List.{List, [], _∷_}
 use Prim.Native.Nat.{ℕ, _+_}

@@ -1,5 +1,5 @@
 -- Emission (000, the loop of `compile`): what each item becomes, given the mode of each wire. Items are the newest first, operations in time order.
--- Said of lists without bad blocks: where there is one, operations are empty. Assumes nothing.
+-- Said of lists without bad blocks: where there is one, operations are empty. Assumes nothing. A public promise rests on this.
 use mathlib.Core.Bool.{cond}
 use mathlib.Core.List.{List, [], _∷_, _++_}
 use Prim.Native.Nat.{ℕ}

@@ -1,5 +1,5 @@
 -- Counting needs the map of a matchgate, and so does emission: the operation is made when the block is counted, and kept in the block's record, after the
--- places that the item is read from, until it is emitted. Assumes nothing.
+-- places that the item is read from, until it is emitted. Assumes nothing. Only inner functions rest on this.
 use mathlib.Core.Path.{_≡_}
 use mathlib.Core.Bool.{cond}
 use mathlib.Core.List.{List}

@@ -1,4 +1,4 @@
--- Operations (question 10): "18 places per operation. Each is kind, mode, 16 numbers". Assumes nothing.
+-- Operations (question 10): "18 places per operation. Each is kind, mode, 16 numbers". Assumes nothing. A public promise rests on this.
 use mathlib.Core.Path.{_≡_}
 use mathlib.Core.List.{List, [], _∷_, _++_}
 use Prim.Native.Nat.{ℕ, _+_}

@@ -1,4 +1,5 @@
 -- What the lent work holds once the report is made: the items, the mode of each wire and, if no block is bad, the operations of the matchgates. Assumes nothing.
+-- Only inner functions rest on this.
 use mathlib.Core.Path.{_≡_}
 use mathlib.Core.Bool.{true}
 use mathlib.Core.List.{List}

@@ -1,5 +1,5 @@
 -- Public `compile`: its questions 1 to 10 in their order are one value, `asked`, from which the answer and every slice follow. The questions up to 9, what
--- they come to, and what a refusal leaves are said for `run` too, which asks on (crate `gaussian`). Assumes nothing.
+-- they come to, and what a refusal leaves are said for `run` too, which asks on (crate `gaussian`). Assumes nothing. A public promise rests on this.
 use mathlib.Core.Path.{_≡_}
 use mathlib.Core.Bool.{Bool, cond}
 use mathlib.Core.List.{List}

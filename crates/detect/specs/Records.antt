@@ -1,4 +1,4 @@
--- The items in the lent work as the passes over them read them. Assumes nothing.
+-- The items in the lent work as the passes over them read them. Assumes nothing. Only inner functions rest on this.
 use mathlib.Core.Bool.{Bool, cond, _&&_}
 use mathlib.Core.List.{List}
 use Prim.Native.Nat.{ℕ, _+_, _*_, _<_, _≤_}

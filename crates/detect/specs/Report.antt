@@ -1,4 +1,5 @@
 -- The report (000, `GaussianReport`), and its tables: order, path starts and modes of the qubits, of which the first n entries count. Assumes nothing.
+-- A public promise rests on this.
 use mathlib.Core.Bool.{Bool, false, cond, _&&_}
 use mathlib.Core.List.{List}
 use Prim.Native.Nat.{ℕ}

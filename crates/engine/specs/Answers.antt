@@ -1,5 +1,5 @@
 -- What a call of the library returns and writes. It returns the number of the question whose answer is no, 0 if there is none, and 99 where a slice
--- for the answer itself is too short: then nothing is read or written. Definitions only.
+-- for the answer itself is too short: then nothing is read or written. Definitions only. A public promise rests on this.
 use mathlib.Core.Path.{_≡_}
 use mathlib.Core.Bool.{Bool, cond, _&&_}
 use mathlib.Core.List.{List}

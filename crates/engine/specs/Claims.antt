@@ -1,4 +1,5 @@
 -- The register claim of `jozkeral_run`: of what its caller has in hand, the number returned and the slices. Definitions only.
+-- A public promise rests on this.
 use mathlib.Core.Path.{_≡_}
 use mathlib.Core.Bool.{Bool, true}
 use mathlib.Core.List.{List}

@@ -1,5 +1,5 @@
 -- What `compile` and `run` return and write: number and place of a refusal, and the report as 14 words, 2 floats and a table of 384 entries.
--- Definitions only.
+-- Definitions only. A public promise rests on this.
 use mathlib.Core.Path.{_≡_}
 use mathlib.Core.Bool.{Bool, cond, _&&_}
 use mathlib.Core.List.{List, [], _∷_}

@@ -1,4 +1,5 @@
 -- Engines that the register claim is asked of: the engine's own run and answers, and four that are wrong in one way each. Assumes nothing.
+-- A public promise rests on this.
 use mathlib.Core.List.{List, []}
 use Prim.Native.Nat.{ℕ}
 use lib.ListN.{take}

@@ -1,4 +1,5 @@
 -- A program run on the vacuum (001, `evolve`): its operations in order, each as `apply` decodes its 18 places. Definitions only.
+-- A public promise rests on this.
 use mathlib.Core.List.{List, [], _∷_}
 use Prim.Native.Nat.{ℕ, zero, suc}
 use lib.ListN.{take, drop}

@@ -1,5 +1,6 @@
 -- `compress` of 000, on every segment at once: of two diagonal one-qubit gates that follow each other on a slot the older takes the newer. Only what
 -- fusing leaves is compressed: the products inside a block are those of the gates as they came. Lists are the newest first. Assumes nothing.
+-- A public promise rests on this.
 use mathlib.Core.Bool.{Bool, cond, _&&_}
 use mathlib.Core.List.{List, [], _∷_, _++_}
 use Prim.Native.Nat.{ℕ}

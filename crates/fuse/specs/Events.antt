@@ -2,7 +2,7 @@
 -- definitions lists are the newest first, so that looking back in time is taking from the front. What 000 keeps beside its gates is read off the list:
 -- - `last[w]` is the newest block on the slot w, and `open_blk[w]` is the same block, unless that block is opaque;
 -- - `tail[w]` is the one-qubit gates on w after the newest block on w; a segment is the one-qubit gates on a slot between two blocks on it;
--- - a block's `open` segments are those before it on its slots, its `close` segments those after it. Assumes nothing.
+-- - a block's `open` segments are those before it on its slots, its `close` segments those after it. Assumes nothing. A public promise rests on this.
 use mathlib.Core.Bool.{Bool, false, cond, _||_}
 use mathlib.Core.List.{List, [], _∷_}
 use Prim.Native.Nat.{ℕ}

@@ -1,5 +1,5 @@
 -- Two-qubit gates into blocks (000, `fuse`, its first loop): a gate joins the open block on its two slots, in the block's orientation and with the
--- one-qubit gates between, or it starts a block. Lists are the newest first. Assumes nothing.
+-- one-qubit gates between, or it starts a block. Lists are the newest first. Assumes nothing. A public promise rests on this.
 use mathlib.Core.Bool.{cond, _&&_}
 use mathlib.Core.List.{List, [], _∷_, _++_, map}
 use Prim.Native.Nat.{ℕ}

@@ -1,5 +1,6 @@
 -- Where the events stand in the lent work. Gate i has the 64 floats from 64 * i on, of which the first 32 are its matrix (a 2 by 2: the first 8), and the
 -- marks of record i: its kind and its slots. What the code promises is said of the event that a record holds, `eventAt`. Assumes nothing.
+-- Only inner functions rest on this.
 use mathlib.Core.Path.{_≡_}
 use mathlib.Core.Bool.{Bool, false, cond, _||_}
 use mathlib.Core.List.{List}

@@ -1,5 +1,5 @@
 -- Relabelling (000, `fuse`): with flag bit 0 an explicit Swap, code 12 and no given matrix, only renames: the slots of its two qubits change places. Every
--- other gate becomes an event on the slots that its qubits then have. Assumes nothing.
+-- other gate becomes an event on the slots that its qubits then have. Assumes nothing. A public promise rests on this.
 use mathlib.Core.Bool.{Bool, cond, _&&_}
 use mathlib.Core.List.{List, [], _∷_}
 use Prim.Native.Nat.{ℕ, _+_}

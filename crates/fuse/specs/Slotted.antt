@@ -1,4 +1,5 @@
 -- Relabelling in the lent work: the slot of qubit q is a mark of record q; gate k becomes the event of record k. Assumes nothing.
+-- Only inner functions rest on this.
 use mathlib.Core.Path.{_≡_}
 use mathlib.Core.Bool.{Bool}
 use mathlib.Core.List.{List, List·Memᴰ}

@@ -1,4 +1,5 @@
 -- Complex numbers: a struct of two f64, with the arithmetic of num-complex. Each operation on the parts is IEEE 754's, rounded to the nearest f64.
+-- A public promise rests on this.
 use mathlib.Core.Bool.{Bool, _&&_}
 use lib.Ieee.{Float, binary64, add, sub, mul, neg, eq, ofBits}
 use Rattle.gate.specs.declared.complex.Complex.{Complex}

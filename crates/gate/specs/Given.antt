@@ -1,4 +1,5 @@
 -- A given matrix in bytes: its entries as f64, row by row, real before imaginary ("then entries as f64, row by row, real before imaginary").
+-- A public promise rests on this.
 use mathlib.Core.List.{List}
 use Prim.Native.Nat.{ℕ, _+_}
 use Rattle.num.specs.Bits.{f64At}

@@ -1,4 +1,5 @@
 -- Matrices in a slice of floats: row by row, real before imaginary. A 2 by 2 is one row of eight floats, a 4 by 4 four of them.
+-- Only inner functions rest on this.
 use mathlib.Core.List.{List, [], _∷_}
 use Prim.Native.Nat.{ℕ, _+_}
 use lib.ListN.{getD}

@@ -1,5 +1,6 @@
 -- 2 by 2 and 4 by 4 matrices of complex numbers, by rows, and the products of the original: the same operations in the same order.
 -- The index of a row or column of a gate on two qubits (a, b) is 2 * bit(a) + bit(b): the first qubit is the high index bit.
+-- A public promise rests on this.
 use mathlib.Core.Bool.{cond}
 use mathlib.Core.List.{List, [], _∷_}
 use Rattle.gate.specs.Complex.{_+ℂ_, _*ℂ_, conjOf, isZeroOf, c0, c1}

@@ -1,6 +1,6 @@
 -- THE REGISTER CLAIM (demand 3): one claim about a whole tape, its run and a whole list of queries. The bit register is fed the n and the gate records of
 -- the tape and nothing else (crate `register`, specs/Register.antt); it answers from its last bits (crate `basis`, specs/Answers.antt). The claim speaks
--- of what a run leaves in its caller's hands, so that it can be asked of any engine (specs/Engines.antt). Definitions only.
+-- of what a run leaves in its caller's hands, so that it can be asked of any engine (specs/Engines.antt). Definitions only. A public promise rests on this.
 use mathlib.Core.Path.{_≡_}
 use mathlib.Core.Bool.{true}
 use mathlib.Core.List.{List, List·Memᴰ}

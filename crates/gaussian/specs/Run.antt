@@ -1,5 +1,5 @@
 -- Public `run` (001, `from_circuit`): its questions 1 to 15 in their order are one value, `asked`, from which the answer and every slice follow: the
--- report, the operations, and the state that they make of the vacuum. Definitions only.
+-- report, the operations, and the state that they make of the vacuum. Definitions only. A public promise rests on this.
 use mathlib.Core.Bool.{Bool, not, cond}
 use mathlib.Core.List.{List}
 use Prim.Native.Nat.{ℕ, _*_, _/_, _%_}

@@ -1,4 +1,4 @@
--- The bounds of the paper that more than one crate knows, each named once. Assumes nothing.
+-- The bounds of the paper that more than one crate knows, each named once. Assumes nothing. A public promise rests on this.
 use Prim.Native.Nat.{ℕ}
 use lib.Ieee.{Float, binary64, ofBits}
 

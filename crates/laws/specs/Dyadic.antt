@@ -1,5 +1,5 @@
 -- Small dyadic numbers as floats: `Dy j z x` says that the float x is finite and its value is z / 2 ^ j.
--- It forgets the sign of a zero: a zero of either sign is `Dy j (pos 0)`. Assumes nothing.
+-- It forgets the sign of a zero: a zero of either sign is `Dy j (pos 0)`. Assumes nothing. Only inner functions rest on this.
 use mathlib.Core.Path.{_≡_}
 use mathlib.Core.Bool.{Bool, true, false}
 use Prim.Native.Nat.{ℕ, _*_, _^_}

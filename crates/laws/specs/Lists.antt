@@ -1,4 +1,4 @@
--- Lists all of whose elements have a property. Assumes nothing.
+-- Lists all of whose elements have a property. Assumes nothing. A public promise rests on this.
 use mathlib.Core.List.{List, [], _∷_}
 
 -- each element of a list

@@ -1,5 +1,5 @@
 -- How far a loop over the entries of a matrix has come. Each entry has its turn, which a key gives: by row, by column, or both at once.
--- A loop's invariant is that the entries whose turn has been are new, and the others old. Assumes nothing.
+-- A loop's invariant is that the entries whose turn has been are new, and the others old. Assumes nothing. Only inner functions rest on this.
 use mathlib.Core.Bool.{Bool, cond}
 use Prim.Native.Nat.{ℕ, _/_}
 use lib.Dec.{eqb, ltb}

@@ -1,5 +1,5 @@
 -- A local linear map on some rows of a matrix and on the same columns, entry by entry, over its width; and the turns of the loops that make it.
--- Sums start at 0.0 and go from left to right. Assumes nothing.
+-- Sums start at 0.0 and go from left to right. Assumes nothing. A public promise rests on this.
 use mathlib.Core.Bool.{Bool, cond, _&&_}
 use mathlib.Core.List.{List}
 use Prim.Native.Nat.{ℕ, zero, suc, _+_, _*_, _-_}

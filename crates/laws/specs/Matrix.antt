@@ -1,5 +1,5 @@
 -- A square matrix that a list of floats holds by rows, in its first dim * dim places.
--- What a contract says is `matrix`; what a proof works with is `Is`. Assumes nothing.
+-- What a contract says is `matrix`; what a proof works with is `Is`. Assumes nothing. A public promise rests on this.
 use mathlib.Core.Path.{_≡_}
 use mathlib.Core.Bool.{cond}
 use mathlib.Core.List.{List}

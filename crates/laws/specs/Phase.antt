@@ -1,4 +1,5 @@
 -- Phases: k stands for i ^ k. Their sum is the product of the powers, `minus` the conjugate; the parts of i ^ k are whole numbers. Assumes nothing.
+-- A public promise rests on this.
 use mathlib.Core.Bool.{Bool, true, false}
 use lib.IntN.{ℤ, pos, negsuc}
 

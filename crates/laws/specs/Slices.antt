@@ -1,5 +1,5 @@
 -- What code makes of a slice, as functions on its list: a part put anew, a loop's turns, a first part made anew, a run of stores.
--- Over any element type. Assumes nothing.
+-- Over any element type. Assumes nothing. A public promise rests on this.
 use mathlib.Core.List.{List, [], _∷_, _++_}
 use Prim.Native.Nat.{ℕ, zero, suc, _+_}
 use lib.ListN.{getD, set, take, drop}

@@ -1,5 +1,5 @@
 -- Steps on a matrix, entry by entry: rows and columns negated; entries made anew where a mask says so, and the masks and the formulas of the
--- eliminations. A local map has a file of its own. Assumes nothing.
+-- eliminations. A local map has a file of its own. Assumes nothing. A public promise rests on this.
 use mathlib.Core.Bool.{Bool, cond, _&&_}
 use Prim.Native.Nat.{ℕ, _+_}
 use lib.Dec.{eqb, leb, ltb}

@@ -1,5 +1,5 @@
 -- Tables: functions on the numbers, such as what stands at each slot, with one place changed or two places exchanged. A list is such a table too,
--- by `getD`; the mode table is one. Assumes nothing.
+-- by `getD`; the mode table is one. Assumes nothing. A public promise rests on this.
 use mathlib.Core.Bool.{cond}
 use mathlib.Core.List.{List}
 use Prim.Native.Nat.{ℕ}

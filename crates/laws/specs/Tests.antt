@@ -1,4 +1,4 @@
--- A test that every number below n passes. Assumes nothing.
+-- A test that every number below n passes. Assumes nothing. A public promise rests on this.
 use mathlib.Core.Bool.{Bool, true, _&&_}
 use Prim.Native.Nat.{ℕ, zero, suc}
 

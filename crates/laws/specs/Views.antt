@@ -1,5 +1,5 @@
 -- Lists by their places: the results e 0, e 1, .. of a function, counted up or seen from the newest, and the search for the newest that passes a test.
--- A list of events in a slice is such a list: e reads event i from the slice. Assumes nothing.
+-- A list of events in a slice is such a list: e reads event i from the slice. Assumes nothing. A public promise rests on this.
 use mathlib.Core.Path.{_≡_}
 use mathlib.Core.Bool.{Bool, cond}
 use mathlib.Core.List.{List, [], _∷_}

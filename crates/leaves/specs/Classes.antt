@@ -1,5 +1,6 @@
 -- What the exported functions on Majorana maps and classes write and return: a map by rows with its residual after it and zeros to the end, and a number
 -- for a class: 0 diagonal, 1 an interaction, 2 a matchgate, 3 neither, with 4 more for a swap and 8 more where it is angled. Assumes nothing.
+-- Only inner functions rest on this.
 use Prim.Native.Nat.{ℕ, _+_}
 use mathlib.Core.Bool.{cond}
 use Rattle.gate.specs.Complex.{cx, f0, c0}

@@ -1,4 +1,5 @@
 -- What the exported matrix functions read and write: a matrix at the start of a slice. A slice that is too short reads as zeros and is not written.
+-- Only inner functions rest on this.
 use mathlib.Core.Bool.{cond}
 use mathlib.Core.List.{List}
 use lib.Dec.{ltb}

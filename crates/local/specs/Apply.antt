@@ -1,5 +1,5 @@
 -- A map is applied to the state: it "first settles d on its own rows, then works on rows and columns", and "if the determinant is below zero, d turns
--- for all later modes". Every step is a closed form of the map's width. Definitions only.
+-- for all later modes". Every step is a closed form of the map's width. Definitions only. A public promise rests on this.
 use mathlib.Core.Bool.{Bool, cond, _&&_}
 use Prim.Native.Nat.{ℕ, _+_}
 use lib.Dec.{leb}

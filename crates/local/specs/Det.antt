@@ -1,5 +1,5 @@
 -- The determinant of a map, as 001 has it: a 2 by 2 by its formula, a larger one by elimination with the last largest pivot. What the engine asks of
--- it is one thing, `odd`: is it below zero? Definitions only.
+-- it is one thing, `odd`: is it below zero? Definitions only. A public promise rests on this.
 use mathlib.Core.Bool.{Bool, cond, _||_}
 use mathlib.Core.List.{List, [], _∷_}
 use Prim.Native.Nat.{ℕ, zero, suc}

@@ -1,5 +1,5 @@
 -- What the inner functions ask and give: rows of three and two numbers in the determinant, one index settled, a column read as a struct.
--- Definitions only.
+-- Definitions only. Only inner functions rest on this.
 use mathlib.Core.Path.{_≡_}
 use mathlib.Core.Bool.{Bool, cond, _&&_}
 use mathlib.Core.List.{List, [], _∷_}

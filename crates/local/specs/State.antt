@@ -1,5 +1,5 @@
 -- The state of the engine: the covariance m with its postponed signs d, as functions of row and column; where both stand in the state slice; the
--- vacuum; and `get`, an entry with its signs, which is all that a query reads. Assumes nothing.
+-- vacuum; and `get`, an entry with its signs, which is all that a query reads. Assumes nothing. A public promise rests on this.
 use mathlib.Core.Bool.{cond, _&&_}
 use mathlib.Core.List.{List}
 use mathlib.Core.Path.{_≡_}

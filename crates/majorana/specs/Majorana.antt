@@ -1,6 +1,6 @@
 -- The Majorana maps of detect.rs: U† c_i U = Σ_j q_ij c_j for the Majorana operators c_i of one mode or of two adjacent ones, and the residual, the
 -- largest of ‖U† c_i U - Σ_j q_ij c_j‖ / ‖c_i‖. Same operations, same order: sums start at zero and go from left to right, zeros of the operators too.
--- Names that end in 2 are of one mode (2 by 2), those that end in 4 of two (4 by 4). Assumes nothing.
+-- Names that end in 2 are of one mode (2 by 2), those that end in 4 of two (4 by 4). Assumes nothing. A public promise rests on this.
 use mathlib.Core.List.{List, [], _∷_}
 use lib.Ieee.{Float, binary64, add, div, ofBits}
 use Rattle.real.specs.Maps.{real2, map2, real4, map4}

@@ -1,5 +1,5 @@
 -- Whether a map commutes with the particle number: the tests of detect.rs for one mode (`commutes_j2`) and for two (`number_conserving4`), with their
--- own treatment of NaN: the first says no there and the second yes. Assumes nothing.
+-- own treatment of NaN: the first says no there and the second yes. Assumes nothing. A public promise rests on this.
 use mathlib.Core.Bool.{Bool, not, _&&_}
 use lib.Ieee.{Float, binary64, add, sub, mul, lt, ofBits}
 use Rattle.real.specs.Maps.{real4, map4}

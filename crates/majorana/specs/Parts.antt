@@ -1,4 +1,5 @@
 -- The words of the contracts of the inner functions: forms that cost less than the definitions, and are equal to them. Assumes nothing.
+-- Only inner functions rest on this.
 use mathlib.Core.List.{List, [], _∷_}
 use lib.Ieee.{Float, binary64, add, sub, mul}
 use Rattle.num.specs.Order.{maxOf}

@@ -1,5 +1,5 @@
 -- The algebra of monomial blocks, by flags and phases: products, the Kronecker product, the adjoint, the qubits named in the other order, and the
--- blocks of the named gates of a register tape. Assumes nothing.
+-- blocks of the named gates of a register tape. Assumes nothing. Only inner functions rest on this.
 use mathlib.Core.Path.{_≡_}
 use mathlib.Core.Bool.{Bool, true, false, cond}
 use mathlib.Core.List.{[], _∷_}

@@ -1,5 +1,5 @@
 -- Basis states and signed permutations: the covariance of given bits on the Majorana operators of some neighbouring modes, and maps whose rows have
--- one entry, 1 or -1. Assumes nothing.
+-- one entry, 1 or -1. Assumes nothing. Only inner functions rest on this.
 use mathlib.Core.Path.{_≡_}
 use mathlib.Core.Bool.{Bool, true, false, not, cond, _&&_}
 use Prim.Native.Nat.{ℕ, zero, suc, _+_, _/_, _%_, _<_}

@@ -1,5 +1,5 @@
 -- Two and four things of a kind, such as the rows of a small matrix and their entries, and when the matrices of the code are related to such, entry
--- by entry. They are data, so that each thing is computed once. Assumes nothing.
+-- by entry. They are data, so that each thing is computed once. Assumes nothing. Only inner functions rest on this.
 use Rattle.gate.specs.declared.complex.Complex.{Complex}
 use Rattle.gate.specs.declared.matrix.Row2.{Row2}
 use Rattle.gate.specs.declared.matrix.Mat2.{Mat2}

@@ -1,5 +1,5 @@
 -- Monomial matrices: one entry in each row and column, a phase. The gates of a register tape and their products are such. A float matrix "has" these
--- entries whatever the signs of its zeros. Assumes nothing.
+-- entries whatever the signs of its zeros. Assumes nothing. A public promise rests on this.
 use mathlib.Core.Path.{_≡_}
 use mathlib.Core.Bool.{Bool, true, false, not, cond, _&&_}
 use lib.IntN.{ℤ, pos}

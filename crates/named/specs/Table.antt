@@ -1,4 +1,5 @@
 -- The constant table: the exact matrices of the named gates, by the tape's codes. Codes are hexadecimal here, as in the format's description.
+-- A public promise rests on this.
 use Prim.Native.Nat.{ℕ, _-_}
 use mathlib.Core.List.{List, [], _∷_}
 use lib.ListN.{getD}

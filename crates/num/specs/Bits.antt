@@ -1,5 +1,5 @@
 -- Numbers as bits and as bytes, the lowest byte first. `ofBits binary64`, from bits to an f64, is the library's: every NaN pattern gives the one NaN.
--- Definitions only.
+-- Definitions only. A public promise rests on this.
 use Prim.Native.Nat.{ℕ, _+_, _*_}
 use mathlib.Core.Bool.{cond}
 use mathlib.Core.List.{List}

@@ -1,4 +1,4 @@
--- Rust's methods of f64 that go by sign and order: `abs`, `max`, `min`, `clamp`. Definitions only.
+-- Rust's methods of f64 that go by sign and order: `abs`, `max`, `min`, `clamp`. Definitions only. A public promise rests on this.
 use mathlib.Core.Bool.{Bool, false, cond}
 use lib.Ieee.{Float, nan, inf, fin, isNan, lt}
 

@@ -1,4 +1,4 @@
--- The words of the contracts of the inner functions of `root`, over whole numbers. Definitions only.
+-- The words of the contracts of the inner functions of `root`, over whole numbers. Definitions only. Only inner functions rest on this.
 use mathlib.Core.Path.{_≡_}
 use Prim.Native.Nat.{ℕ, _+_, _-_, _*_, _/_, _%_, _^_, _≤_, _<_}
 use mathlib.Core.Bool.{not}

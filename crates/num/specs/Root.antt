@@ -1,6 +1,7 @@
 -- The square root of an f64, stated over whole numbers. Every finite f64 is a whole number of the smallest one above zero, 2 ^ -1074: its grains.
 -- With c for the grains of x, the root of x counted in grains is the root of the whole number c * 2 ^ 1074. `Nearest` compares that with the middles between
 -- two f64, by squares; `RootOf` is the root as IEEE 754 has it, and `sqrtOf` the same as a function that computes. Definitions only.
+-- A public promise rests on this.
 use mathlib.Core.Path.{_≡_}
 use Prim.Native.Nat.{ℕ, zero, suc, _+_, _-_, _*_, _/_, _^_, _<_}
 use mathlib.Core.Bool.{Bool, true, false, cond}

@@ -1,5 +1,5 @@
 -- The choice in 000's `compile`: "a path cover replaces the identity only if it covers strictly more". The report's ordering is an enum, the code's
--- own: identity, paths if the cover kept every edge, greedy otherwise. Assumes nothing.
+-- own: identity, paths if the cover kept every edge, greedy otherwise. Assumes nothing. A public promise rests on this.
 use mathlib.Core.Bool.{Bool, cond, _&&_}
 use mathlib.Core.List.{List, [], _∷_}
 use Prim.Native.Nat.{ℕ, _+_}

@@ -1,5 +1,5 @@
 -- The greedy path cover (000, `path_order`): a list of paths, each a list of wires. An edge between ends of two paths joins them, any other is left.
--- "Degree below 2" is "an end of its path", "no cycle" is "of another path", and no union-find is needed. Assumes nothing.
+-- "Degree below 2" is "an end of its path", "no cycle" is "of another path", and no union-find is needed. Assumes nothing. A public promise rests on this.
 use mathlib.Core.Bool.{Bool, true, false, cond}
 use mathlib.Core.List.{List, [], _∷_}
 use Prim.Native.Nat.{ℕ}

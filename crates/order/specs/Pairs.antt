@@ -1,4 +1,5 @@
 -- The matchgate pairs of the items in the lent work: item i is record i, and its pair the wires that stand there. Assumes nothing.
+-- Only inner functions rest on this.
 use mathlib.Core.Path.{_≡_}
 use mathlib.Core.Bool.{cond}
 use mathlib.Core.List.{List, [], _∷_}

@@ -1,5 +1,5 @@
 -- The Pfaffian (001, `pfaffian`) of a matrix given by its entries: elimination by pairs of rows, with a pivot.
--- Only entries of rows and columns from k on are read at pair k, k + 1. Assumes nothing.
+-- Only entries of rows and columns from k on are read at pair k, k + 1. Assumes nothing. A public promise rests on this.
 use mathlib.Core.Bool.{true, false, cond}
 use Prim.Native.Nat.{ℕ, zero, suc, _-_, _/_, _%_}
 use lib.Dec.{eqb}

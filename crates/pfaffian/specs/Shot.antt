@@ -1,5 +1,5 @@
 -- One shot of a sample (001, `sample`): the modes are measured one after the other, mode k by draw k, and each projection updates the entries of the
--- modes after it. The covariance is given by its entries, and is not assumed antisymmetric. Assumes nothing.
+-- modes after it. The covariance is given by its entries, and is not assumed antisymmetric. Assumes nothing. A public promise rests on this.
 use mathlib.Core.Bool.{Bool, true, false, cond, _&&_}
 use mathlib.Core.List.{List, [], _∷_}
 use Prim.Native.Nat.{ℕ, zero, suc, _+_, _*_}

@@ -1,5 +1,5 @@
 -- What the inner functions make of the matrix: the Pfaffian's elimination with row k divided once, and a shot's update right of the diagonal.
--- Laws show that they come to the plain definitions. Assumes nothing.
+-- Laws show that they come to the plain definitions. Assumes nothing. Only inner functions rest on this.
 use mathlib.Core.Path.{_≡_}
 use mathlib.Core.Bool.{Bool, false, cond}
 use mathlib.Core.List.{List}

@@ -1,4 +1,5 @@
 -- What a kernel leaves of the slice that it is lent: its matrix is work, and anything else is as it was. Assumes nothing.
+-- Only inner functions rest on this.
 use mathlib.Core.List.{List}
 use Prim.Native.Nat.{ℕ}
 use lib.Ieee.{Float}

@@ -1,5 +1,5 @@
 -- A basis index (001, `probability`), from two words: the marginal of all n qubits, bit q being qubit q's. "Basis index bits from n upward are
--- ignored." Definitions only.
+-- ignored." Definitions only. A public promise rests on this.
 use mathlib.Core.Bool.{cond}
 use mathlib.Core.List.{List}
 use Prim.Native.Nat.{ℕ, _-_, _/_, _%_, _^_}

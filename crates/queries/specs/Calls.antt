@@ -1,5 +1,5 @@
 -- What the public calls answer, by their questions in order, and what they leave in work and output. Every query is a function of the matrix `get`;
--- the state is only read. Definitions only.
+-- the state is only read. Definitions only. A public promise rests on this.
 use mathlib.Core.Bool.{Bool, cond}
 use mathlib.Core.List.{List, [], _∷_}
 use Prim.Native.Nat.{ℕ, _*_}

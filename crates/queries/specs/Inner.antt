@@ -1,4 +1,5 @@
 -- What the inner functions ask and give: marks of modes, the modes listed in an array, a matrix in work. Definitions only.
+-- Only inner functions rest on this.
 use mathlib.Core.Path.{_≡_}
 use mathlib.Core.Bool.{true}
 use mathlib.Core.List.{List}

@@ -1,4 +1,5 @@
 -- The list of a query, by its places: which place is bad, what a place contradicts, and the modes that are left of it. Definitions only.
+-- A public promise rests on this.
 use mathlib.Core.Bool.{Bool, false, not, cond, _&&_, _||_}
 use mathlib.Core.List.{List, [], _∷_, _++_}
 use Prim.Native.Nat.{ℕ, zero, suc}

@@ -1,6 +1,6 @@
 -- The probability that modes read their bits (001, `marginal_probability`): 0.5 · m, with 0.5 added and taken away in each mode's pair of entries;
 -- the Pfaffian with the sign of the bits' parity; never below zero. What is asked of a mode is its mark: 0 nothing, else one more than the bit.
--- Definitions only.
+-- Definitions only. A public promise rests on this.
 use mathlib.Core.Bool.{Bool, cond, _&&_}
 use mathlib.Core.List.{List}
 use Prim.Native.Nat.{ℕ, _+_, _/_, _%_}

@@ -1,4 +1,5 @@
 -- The product of Z over modes (001, `expectation_z_product`): the Pfaffian of the covariance's rows and columns that are theirs. Definitions only.
+-- A public promise rests on this.
 use mathlib.Core.List.{List}
 use Prim.Native.Nat.{ℕ, _+_, _*_, _/_, _%_}
 use lib.ListN.{getD, length}

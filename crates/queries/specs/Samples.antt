@@ -1,5 +1,5 @@
 -- Samples (001, `sample`): n draws a shot, in mode order; every shot starts again from the covariance; "shots are two words, low first".
--- Definitions only.
+-- Definitions only. A public promise rests on this.
 use mathlib.Core.Bool.{Bool, cond, not, _&&_}
 use mathlib.Core.List.{List}
 use Prim.Native.Nat.{ℕ, _*_, _/_, _%_}

@@ -1,5 +1,5 @@
 -- Real maps of the Majorana operators of one mode (2 by 2) and of two (4 by 4), the structs of the code: made from their entries, and read by row and
--- column. Assumes nothing.
+-- column. Assumes nothing. A public promise rests on this.
 use mathlib.Core.List.{[], _∷_}
 use Prim.Native.Nat.{ℕ, zero, suc}
 use lib.ListN.{getD}

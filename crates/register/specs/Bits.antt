@@ -1,5 +1,6 @@
 -- What gates do to bits: a matrix that has one entry in each row and column takes basis states to basis states. The bits after are read from the
 -- column of the bits before, and a run of events or items turns and exchanges the bits of slots or wires. Assumes nothing.
+-- Only inner functions rest on this.
 use mathlib.Core.Path.{refl}
 use mathlib.Core.Bool.{Bool, true, false, _&&_}
 use mathlib.Core.List.{List, [], _∷_}

@@ -1,6 +1,6 @@
 -- The blocks and items of a register tape. A class of blocks that products, Kronecker products and renamings do not leave: those with an even sum of
 -- phases, which are all blocks of a register tape, or those that fit, which are all of one without Swap. Then what an item's kind says of its block.
--- Assumes nothing.
+-- Assumes nothing. Only inner functions rest on this.
 use mathlib.Core.Path.{_≡_}
 use mathlib.Core.Logic.{_≢_}
 use mathlib.Core.Bool.{Bool, true, false, cond}

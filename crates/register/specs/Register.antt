@@ -1,6 +1,6 @@
 -- The bit register (document 01, "The bit register"): "A register tape has gates of the codes 00, 02 to 06 and 12 to 14 only, and any labels, flags,
 -- tolerance and limit. The register is fed its n and its gate records in tape order, nothing else. It holds n bits, all zero at first." Codes are
--- hexadecimal. Assumes nothing.
+-- hexadecimal. Assumes nothing. A public promise rests on this.
 use mathlib.Core.Path.{_≡_}
 use mathlib.Core.Logic.{_⊎_, _≢_}
 use mathlib.Core.Bool.{Bool, false, not, cond, _&&_, _||_}

@@ -1,5 +1,6 @@
 -- The run of a list of events in a monoid: the product of what its gates do, the newest on the left. Fusing is shown to keep the run of every list,
 -- for any monoid and any action of gates in it under a few laws, so that one theorem serves bits and whatever else gates act on. Assumes nothing.
+-- Only inner functions rest on this.
 use mathlib.Core.Path.{_≡_}
 use mathlib.Core.Logic.{_≢_}
 use mathlib.Core.List.{List, [], _∷_}

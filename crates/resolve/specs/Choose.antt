@@ -1,5 +1,5 @@
 -- The choice of a block's cuts (000, `fuse`, its second loop): every pair of cuts is tried, those of the first slot outside, and the first of the best
--- scores is kept. A score is (rank, residual for rank 2 and 0.0 otherwise, gates taken). Assumes nothing.
+-- scores is kept. A score is (rank, residual for rank 2 and 0.0 otherwise, gates taken). Assumes nothing. A public promise rests on this.
 use mathlib.Core.Bool.{Bool, false, cond, _&&_, _||_}
 use mathlib.Core.List.{List, [], _∷_}
 use Prim.Native.Nat.{ℕ, _+_}

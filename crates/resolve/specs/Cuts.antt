@@ -1,5 +1,5 @@
 -- Cuts of a closing tail: the one-qubit gates on a slot after a block, up to the next block on it. Cut t gives the first t of them to the block.
--- Lists are the oldest first. Assumes nothing.
+-- Lists are the oldest first. Assumes nothing. A public promise rests on this.
 use mathlib.Core.Bool.{Bool, cond, _||_}
 use mathlib.Core.List.{List, [], _∷_}
 use Prim.Native.Nat.{ℕ, _+_}

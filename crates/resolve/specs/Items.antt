@@ -1,5 +1,5 @@
 -- The items (000, `Item`): fused, classified blocks in terms of wires. Of a two-qubit item's kind a number is kept, `matchItem` to `neitherItem`, as in
--- the lent work; whether the phase counts as none is part of it. Assumes nothing.
+-- the lent work; whether the phase counts as none is part of it. Assumes nothing. A public promise rests on this.
 use mathlib.Core.List.{List, [], _++_}
 use Prim.Native.Nat.{ℕ, zero, suc, _<_}
 use lib.Ieee.{Float}

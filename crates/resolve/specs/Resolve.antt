@@ -1,6 +1,7 @@
 -- Resolving the splits (000, `fuse`, its second loop): blocks in time order take the one-qubit gates before them on their slots, and as many of those
 -- after them as the choice says. What a slot holds is its remainder: the time product of the one-qubit gates on it that no block has taken, if there are
 -- any. 000's `split` of a segment is kept with the slot and counted down: so many of the next gates belong to the block before. Assumes nothing.
+-- A public promise rests on this.
 use mathlib.Core.Bool.{Bool, false, cond, _||_}
 use mathlib.Core.List.{List, [], _∷_, _++_}
 use Prim.Native.Nat.{ℕ, zero, suc, _+_, _*_, _-_}

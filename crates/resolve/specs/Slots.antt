@@ -1,5 +1,6 @@
 -- Where the slots and the items stand in the lent work, with g gates: slot s has the record g + s, which holds its remainder and its split; the wire in it
 -- is a mark of record s. An item stands in the record of its block or, if it is a remainder, of its slot. Assumes nothing.
+-- Only inner functions rest on this.
 use mathlib.Core.Path.{_≡_}
 use mathlib.Core.Logic.{_⊎_}
 use mathlib.Core.Bool.{Bool, false, cond, _&&_}

@@ -1,5 +1,5 @@
 -- Fusing as a whole (000, `fuse`), from the events that relabelling leaves: blocks, runs of diagonal gates, splits, remainders. Items and events are the
--- newest first. Assumes nothing.
+-- newest first. Assumes nothing. A public promise rests on this.
 use mathlib.Core.Path.{_≡_}
 use mathlib.Core.Bool.{Bool}
 use mathlib.Core.List.{List, reverse}

@@ -1,5 +1,5 @@
 -- Blocks: unitaries U on one mode or on two neighbours that send Paulis to signed Paulis, by what U* P U is for each P on their own modes. That it
--- respects products is all that is asked. A block acts on a string at its own modes only. Assumes nothing.
+-- respects products is all that is asked. A block acts on a string at its own modes only. Assumes nothing. A public promise rests on this.
 use mathlib.Core.Path.{_≡_}
 use Prim.Native.Nat.{ℕ, _+_}
 use Rattle.laws.specs.Tables.{update}

@@ -1,5 +1,5 @@
 -- Operations of the engine that come from blocks, and what a list of them means: an operator after the list is pulled back through the blocks.
--- Nothing here speaks of determinants or of later modes. Assumes nothing.
+-- Nothing here speaks of determinants or of later modes. Assumes nothing. A public promise rests on this.
 use mathlib.Core.Path.{_≡_}
 use mathlib.Core.Bool.{Bool, cond}
 use mathlib.Core.List.{List, [], _∷_}

@@ -1,5 +1,5 @@
 -- The engine's step with its two tests as parameters: which indices turn, and which are settled. With the engine's own tests it is the engine; with
--- others it is an engine that is wrong in one way. Assumes nothing.
+-- others it is an engine that is wrong in one way. Assumes nothing. A public promise rests on this.
 use mathlib.Core.Bool.{Bool, false, cond, _&&_}
 use Prim.Native.Nat.{ℕ, _+_, _*_}
 use lib.Dec.{leb, ltb}

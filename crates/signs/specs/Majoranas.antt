@@ -1,5 +1,5 @@
 -- The Majorana operators by Jordan-Wigner, two to a mode: Z on the modes before, and X or Y on its own. The covariance's entry (r, c) is the value of
--- -i times the r-th and the c-th; Z of a mode is such a product too. Assumes nothing.
+-- -i times the r-th and the c-th; Z of a mode is such a product too. Assumes nothing. A public promise rests on this.
 use mathlib.Core.Path.{_≡_}
 use mathlib.Core.Bool.{Bool, true, false, xor, cond}
 use mathlib.Core.List.{List, [], _∷_}

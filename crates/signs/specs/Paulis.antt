@@ -1,5 +1,5 @@
 -- Signed Pauli strings: a phase i^k and a Pauli at each mode; their product on n modes; and the value of such an operator in the vacuum |0..0>,
--- of which the real part is 0, 1 or -1. Assumes nothing.
+-- of which the real part is 0, 1 or -1. Assumes nothing. A public promise rests on this.
 use mathlib.Core.Bool.{Bool, true, false, not, _&&_, cond}
 use Prim.Native.Nat.{ℕ, zero, suc}
 use lib.IntN.{pos}

@@ -3,6 +3,7 @@
 -- between. The engine applies the operations in order, from the vacuum. Quantum mechanics pulls an observable back through the blocks, the last one
 -- first, and takes its value in |0..0>. The two agree, zero signs aside. The right sides speak of neither determinants nor later modes nor postponed
 -- signs, so an engine that loses a turn, turns its own rows too, does not settle, or turns the next mode only is not right. Assumes nothing.
+-- A public promise rests on this.
 use mathlib.Core.Path.{_≡_}
 use mathlib.Core.Bool.{true}
 use mathlib.Core.List.{List, [], _∷_}

@@ -1,5 +1,5 @@
 -- The answers of the state calls: for every case of the code's enums the scope's number, its place, and the value. "A refusal's numbers are zero."
--- Definitions only.
+-- Definitions only. A public promise rests on this.
 use Prim.Native.Nat.{ℕ}
 use lib.Ieee.{Float}
 use Rattle.laws.specs.Zeros.{+0}

@@ -1,5 +1,5 @@
 -- What the public calls answer, by their questions in order, and what they leave in the state slice. Every query is a function of the matrix `get`.
--- Definitions only.
+-- Definitions only. A public promise rests on this.
 use mathlib.Core.Bool.{cond}
 use mathlib.Core.List.{List}
 use Prim.Native.Nat.{ℕ, _+_, _*_}

@@ -1,4 +1,4 @@
--- The mode table: entry q is the mode of qubit q. "The mode table's first n a permutation" (question 16). Definitions only.
+-- The mode table: entry q is the mode of qubit q. "The mode table's first n a permutation" (question 16). Definitions only. A public promise rests on this.
 use mathlib.Core.Bool.{Bool, not, _&&_}
 use mathlib.Core.List.{List}
 use Prim.Native.Nat.{ℕ, _-_}

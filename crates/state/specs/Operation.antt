@@ -1,4 +1,5 @@
 -- Operations: what the 18 places of one hold, "kind, mode, 16 numbers" (questions 10 and 17), and what it does to the state. Definitions only.
+-- A public promise rests on this.
 use mathlib.Core.Bool.{Bool, cond, _&&_}
 use mathlib.Core.List.{List}
 use Prim.Native.Nat.{ℕ, _+_, _*_, _-_, _<_}

@@ -1,4 +1,5 @@
 -- What the inner functions ask and give: a slice that holds a state, an operation's first places, marks of modes, the vacuum's pairs. Definitions only.
+-- Only inner functions rest on this.
 use mathlib.Core.Path.{_≡_}
 use mathlib.Core.Bool.{Bool, true, false, cond, not, _&&_}
 use mathlib.Core.List.{List}

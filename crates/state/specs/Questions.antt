@@ -1,4 +1,4 @@
--- Question 16, which every state call meets first. Definitions only.
+-- Question 16, which every state call meets first. Definitions only. A public promise rests on this.
 use mathlib.Core.Bool.{Bool, _&&_}
 use mathlib.Core.List.{List}
 use Prim.Native.Nat.{ℕ}

@@ -1,5 +1,5 @@
 -- One record: what stands at an offset of the tape, by the questions 4 to 8 in their order. n is the header's, g the number of gates before the
--- record. Assumes nothing.
+-- record. Assumes nothing. A public promise rests on this.
 use Prim.Native.Nat.{ℕ, _+_, _*_, _-_}
 use mathlib.Core.Bool.{Bool, true, false, cond, not, _&&_}
 use mathlib.Core.List.{List}

@@ -1,4 +1,4 @@
--- Text as bytes: words in ASCII, and whole numbers in decimal. Definitions only.
+-- Text as bytes: words in ASCII, and whole numbers in decimal. Definitions only. A public promise rests on this.
 use mathlib.Core.Bool.{Bool, true, false}
 use mathlib.Core.List.{List, [], _∷_, _++_}
 use Prim.Native.Nat.{ℕ, zero, suc, _+_, _/_, _%_}

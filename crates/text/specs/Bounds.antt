@@ -1,4 +1,4 @@
--- The bounds of the printing program, each named once. Assumes nothing.
+-- The bounds of the printing program, each named once. Assumes nothing. A public promise rests on this.
 use Prim.Native.Nat.{ℕ}
 
 -- "over 60,000 bytes"

@@ -3,7 +3,7 @@
 --   order identity 0 1
 --   q0 1000000
 --   q1 -1000000
--- Definitions only.
+-- Definitions only. A public promise rests on this.
 use mathlib.Core.List.{List, [], _++_}
 use Prim.Native.Nat.{ℕ, zero, suc}
 use Prim.Native.String.{String}

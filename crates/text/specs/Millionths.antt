@@ -1,5 +1,6 @@
 -- "Z in millionths of the float's exact value, half away from zero, 0 without a sign; `out` for NaN or magnitude 2 and more." A finite float is
 -- m * 2 ^ e with a sign, and 2 ^ e is the fraction up e / down e, so the millionths are said on whole numbers. Definitions only.
+-- A public promise rests on this.
 use mathlib.Core.Bool.{Bool, cond, _&&_}
 use mathlib.Core.List.{List, _++_}
 use Prim.Native.Nat.{ℕ, _+_, _*_, _/_}

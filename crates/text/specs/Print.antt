@@ -1,4 +1,4 @@
--- The printing program: the text of a tape. Definitions only.
+-- The printing program: the text of a tape. Definitions only. A public promise rests on this.
 use mathlib.Core.Bool.{Bool, false, cond, _||_}
 use mathlib.Core.List.{List, _++_}
 use Prim.Native.Nat.{ℕ, _*_}

@@ -1,4 +1,4 @@
--- Text in a lent slice, written piece after piece. Definitions only.
+-- Text in a lent slice, written piece after piece. Definitions only. A public promise rests on this.
 use mathlib.Core.Path.{_≡_}
 use mathlib.Core.List.{List}
 use Prim.Native.Nat.{ℕ, _+_, _≤_}

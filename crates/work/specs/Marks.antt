@@ -1,5 +1,5 @@
 -- The numbers of the lent work ("work 64(G+n) f64 and 32(G+n) u32 places"): a record of 32 marks for each gate and each slot. A column, which is the
--- marks with one number in all records, is a table. Assumes nothing.
+-- marks with one number in all records, is a table. Assumes nothing. Only inner functions rest on this.
 use mathlib.Core.Path.{_≡_}
 use mathlib.Core.Bool.{Bool, false}
 use mathlib.Core.List.{List}
