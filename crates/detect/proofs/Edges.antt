@@ -51,7 +51,7 @@ use Rattle.work.specs.Columns.{matchItem, interactionItem}
 use Rattle.resolve.specs.Items as Items
 use Rattle.resolve.specs.Items.{Item}
 use Rattle.resolve.specs.Cuts.{ones, ahead, keep, cuts, prefixOf}
-use Rattle.resolve.specs.Choose.{levelOf, candidateOf, betterOf, noChoice, offerOf, tryRow, tryAll, chooseOf}
+use Rattle.resolve.specs.Choose.{levelOf, candidateOf, betterOf, noChoice, offerOf, offersOf, allOffers, tryEach, chooseOf}
 use Rattle.resolve.specs.Resolve.{settled, candidates, chosen, resolved, withRests, startOf}
 use Rattle.resolve.specs.Whole.{Fused, fusedOf, resolvedOf, fuseOf}
 use Rattle.detect.specs.Counts.{adjacentShare, matchShare, twoShare, plusOf, countedOnto, countsOf}
@@ -102,8 +102,8 @@ wholes : (itemsOf (header 3 2) iswap ≡ alone 3 0 2 gateISwap (class2 (Match f0
     × (itemsOf (header 3 0) iswap ≡ alone 3 0 2 gateISwap (class2 (Match f0) false gateISwap false))
     × (itemsOf (header 2 1) cz ≡ alone 2 0 1 gateCz (class2 (Match f0) true (swap4Of gateCz) true))
     × (itemsOf (header 2 0) cz ≡ alone 2 0 1 gateCz (class2 Interaction false gateCz true))
-unfolding itemsOf labelsOf labelled unlabelled upFrom fuseOf resolvedOf fused compressed resolved until from chosen candidates chooseOf tryAll tryRow cuts keep
-    ones ahead prefixOf timeProductFrom timeProductOf startOf
+unfolding itemsOf labelsOf labelled unlabelled upFrom fuseOf resolvedOf fused compressed resolved until from chosen candidates chooseOf allOffers offersOf
+    tryEach cuts keep ones ahead prefixOf timeProductFrom timeProductOf startOf
 wholes = (
   ap (alone 3 0 2 gateISwap) (classes .0),
   ap (alone 3 0 2 gateISwap) (classes .0),

@@ -3,7 +3,7 @@
 use mathlib.Core.Path.{_≡_, refl, sym, ap, _∙_, subst}
 use mathlib.Core.Logic.{_⊎_, inl, inr}
 use mathlib.Core.Bool.{Bool, true, false, cond}
-use mathlib.Core.List.{List, [], _∷_}
+use mathlib.Core.List.{List, [], _∷_, _++_}
 use Prim.Native.Nat.{ℕ, _+_}
 use native.Mathlib.Numerals.{add-one}
 use lib.Ieee.{Float}
@@ -18,7 +18,7 @@ use Rattle.classify.specs.declared.classify.Kind2.the-variants.{Diag, Interacti
 use Rattle.resolve.specs.declared.choose.Choice.{Choice}
 use Rattle.resolve.specs.declared.choose.Search.{Search}
 use Rattle.resolve.specs.Cuts.{inWindow, keep, cuts}
-use Rattle.resolve.specs.Choose.{levelOf, candidateOf, betterOf, improves, offerOf, noChoice, tryRow, tryAll, chooseOf}
+use Rattle.resolve.specs.Choose.{levelOf, candidateOf, betterOf, improves, offerOf, noChoice, Offer, offersOf, allOffers, tryEach, chooseOf}
 
 -- a candidate beats what is of rank 3
 beats : (k : Kind2) (l : Float) (t s : ℕ) (m : Float) (j : ℕ) → s ≡ 3 → betterOf (rankOf k) l t s m j ≡ true
@@ -56,23 +56,17 @@ module _ (relabel : Bool) (tol : Float) (base : Mat4) (pa pb : ℕ → Mat2) whe
           absurd (subst (λ (t : Bool). cond t (Unit {0}) ⊥)
           (sym (beats (made ka kb .kind) (levelOf (made ka kb .kind)) (ka + kb) (s .best .rank) (s .best .level) (s .best .taken) r) ∙ e) tt)
 
-  row : (ka : ℕ) (kbs : List ℕ) (s : Search) → Picked (s .best) → Picked (tryRow relabel tol base pa pb ka kbs s .best)
-  unfolding tryRow
-  row ka [] s p = p
-  row ka (kb ∷ kbs) s p = row ka kbs (offerOf ka kb (made ka kb) s) (offered ka kb s (inr p))
-
-  rows : (kas kbs : List ℕ) (s : Search) → Picked (s .best) → Picked (tryAll relabel tol base pa pb kas kbs s .best)
-  unfolding tryAll
-  rows [] kbs s p = p
-  rows (ka ∷ kas) kbs s p = rows kas kbs (tryRow relabel tol base pa pb ka kbs s) (row ka kbs s p)
+  each : (os : List Offer) (s : Search) → Picked (s .best) → Picked (tryEach relabel tol base pa pb os s .best)
+  unfolding tryEach
+  each [] s p = p
+  each (o ∷ os) s p = each os (offerOf (o .ka) (o .kb) (made (o .ka) (o .kb)) s) (offered (o .ka) (o .kb) s (inr p))
 
   pub picked : (la lb : ℕ) → Picked (chooseOf relabel tol base pa pb la lb .best)
-  unfolding chooseOf tryAll tryRow
+  unfolding chooseOf allOffers offersOf tryEach
   picked la lb =
       let a = first-cut la in
       let b = first-cut lb in
       let s : Search = record { best = noChoice base; angled = false } in
-      subst (λ l. Picked (tryAll relabel tol base pa pb l (cuts lb) s .best)) (sym (a .1))
-      (subst (λ l. Picked (tryAll relabel tol base pa pb (0 ∷ a .0) l s .best)) (sym (b .1))
-      (rows (a .0) (0 ∷ b .0) (tryRow relabel tol base pa pb 0 (b .0) (offerOf 0 0 (made 0 0) s))
-      (row 0 (b .0) (offerOf 0 0 (made 0 0) s) (offered 0 0 s (inl refl)))))
+      subst (λ l. Picked (tryEach relabel tol base pa pb (allOffers l (cuts lb)) s .best)) (sym (a .1))
+      (subst (λ l. Picked (tryEach relabel tol base pa pb (allOffers (0 ∷ a .0) l) s .best)) (sym (b .1))
+      (each (offersOf 0 (b .0) ++ allOffers (a .0) (0 ∷ b .0)) (offerOf 0 0 (made 0 0) s) (offered 0 0 s (inl refl))))

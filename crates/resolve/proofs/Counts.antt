@@ -1,19 +1,29 @@
--- How many cuts a tail has: one more than its gates up to 17, and 18 beyond. The cuts at both ends are kept, and those between are not.
--- Assumes nothing.
-use mathlib.Core.Path.{_≡_, refl, ap, ap₂, _∙_}
+-- How many cuts a tail has: one more than its gates up to 17, and 18 beyond. The cuts at both ends are kept, and those between are not. How many
+-- candidates a block has, and how many are classified. Assumes nothing.
+use mathlib.Core.Path.{_≡_, refl, sym, ap, ap₂, _∙_}
 use mathlib.Core.Logic.{_⊎_, inl, inr}
 use mathlib.Core.Bool.{Bool, true, false, cond, _||_}
-use mathlib.Core.List.{List, [], _∷_, _++_}
+use mathlib.Core.List.{List, [], _∷_, _++_, reverse}
 use Prim.Native.Nat.{ℕ, zero, suc, _+_, _*_, _-_, _≤_, _<_}
-use native.Mathlib.Nat.{mul-le-mul}
+use native.Mathlib.Nat.{add-comm, add-assoc, zero-add, add-zero, zero-mul, suc-mul, mul-le-mul}
 use native.Mathlib.Omega.{arith}
-use lib.Dec.{leb}
-use lib.ListN.{length, length-append}
+use lib.Dec.{eqb, leb}
+use lib.ListN.{length, length-append, getD}
+use lib.Ieee.{Float}
 use borrow.Author.Tests.{le-leb, lt-leb}
 use Rattle.laws.specs.Views.{upFrom}
 use Rattle.laws.proofs.Cases.{lt-or-le}
 use Rattle.laws.proofs.Views.{up-join}
-use Rattle.resolve.specs.Cuts.{cutWindow, inWindow, keep, cuts}
+use Rattle.fuse.specs.Events.{Event, gone, one, two, three}
+use Rattle.fuse.specs.Fuse.{fused}
+use Rattle.fuse.specs.Compress.{compressed}
+use Rattle.resolve.specs.declared.choose.Choice.{Choice}
+use Rattle.resolve.specs.Cuts.{cutWindow, inWindow, keep, cuts, ahead}
+use Rattle.resolve.specs.Choose.{offersOf, allOffers, offers}
+use Rattle.resolve.specs.Resolve.{Resolved, lengthened, promised, emptied, renamed, added, passed, itemOf, settled}
+use Rattle.resolve.specs.Resolve.{candidates, classified, chosen, resolveStep, resolved, startOf}
+use Rattle.resolve.specs.Slots.{maxCandidates}
+use Rattle.resolve.specs.Whole.{resolvedOf, fuseOf}
 
 -- ---- what is kept of the numbers from k on
 
@@ -92,6 +102,62 @@ cuts-few len = by (lt-or-le len 17)
     by (inl h) = omega (arith, cuts-short len (omega arith))
     by (inr h) = omega (arith, cuts-long len h)
 
--- so no block has more than 324 candidates
+-- ---- the candidates of a block
+
+row-many : (ka : ℕ) (kbs : List ℕ) → length (offersOf ka kbs) ≡ length kbs
+unfolding offersOf
+row-many ka [] = refl
+row-many ka (kb ∷ kbs) = ap suc (row-many ka kbs)
+
+all-many : (kas kbs : List ℕ) → length (allOffers kas kbs) ≡ length kas * length kbs
+unfolding allOffers
+all-many [] kbs = sym (zero-mul (length kbs))
+all-many (ka ∷ kas) kbs =
+    length-append (offersOf ka kbs) (allOffers kas kbs) ∙ ap₂ _+_ (row-many ka kbs) (all-many kas kbs)
+    ∙ add-comm (length kbs) (length kas * length kbs) ∙ sym (suc-mul (length kas) (length kbs))
+
+-- every cut of the one tail with every cut of the other
+pub offers-many : (la lb : ℕ) → length (offers la lb) ≡ length (cuts la) * length (cuts lb)
+offers-many la lb = all-many (cuts la) (cuts lb)
+
 pub pairs-few : (la lb : ℕ) → length (cuts la) * length (cuts lb) ≤ 324
 pairs-few la lb = mul-le-mul (cuts-few la) (cuts-few lb)
+
+-- "so no two-qubit block tries more than 324"
+pub candidates-few : (a b : ℕ) (es : List Event) → candidates a b es ≤ maxCandidates
+unfolding candidates
+candidates-few a b es =
+    let la = length (ahead a es) in
+    let lb = length (ahead b es) in
+    rw (offers-many la lb) (pairs-few la lb)
+
+-- ---- the candidates classified
+
+settled-tried : (a b n : ℕ) (x : Choice) (angled : Bool) (r : Resolved) → settled a b n x angled r .tried ≡ r .tried + n
+settled-tried a b n x angled r = by (x .class .swap)
+  where
+    by : (t : Bool) → cond t (added (itemOf a b x r) 1 n angled (renamed a b (emptied b (x .kb) (emptied a (x .ka) r))))
+        (added (itemOf a b x r) 0 n angled (emptied b (x .kb) (emptied a (x .ka) r))) .tried ≡ r .tried + n
+    by true = refl
+    by false = refl
+
+module _ (relabel : Bool) (tol : Float) where
+  tried-from : (es : List Event) (r : Resolved) → resolved relabel tol es r .tried ≡ r .tried + classified es
+  unfolding resolved classified
+  tried-from [] r = sym (add-zero (r .tried))
+  tried-from (gone ∷ es) r = tried-from es r
+  tried-from (one w m ∷ es) r = tried-from es (passed w m r) ∙ ap (λ k. k + classified es) (by (eqb (getD (r .splits) w 0) 0))
+    where
+      by : (b : Bool) → cond b (lengthened w m r) (promised w (getD (r .splits) w 0 - 1) r) .tried ≡ r .tried
+      by true = refl
+      by false = refl
+  tried-from (two a b u ∷ es) r =
+      tried-from es (resolveStep relabel tol (two a b u) es r)
+      ∙ ap (λ k. k + classified es) (settled-tried a b (candidates a b es) (chosen relabel tol a b u es r .best) (chosen relabel tol a b u es r .angled) r)
+      ∙ add-assoc (r .tried) (candidates a b es) (classified es)
+  tried-from (three a b c ∷ es) r = tried-from es (resolveStep relabel tol (three a b c) es r) ∙ ap (λ k. k + classified es) (add-zero (r .tried))
+
+  -- `tried` is the number of classifications: one for each candidate of each block
+  pub tried-is : (n swaps : ℕ) (es : List Event) → fuseOf relabel tol n swaps es .tried ≡ classified (reverse (compressed (fused es)))
+  unfolding fuseOf resolvedOf startOf
+  tried-is n swaps es = tried-from (reverse (compressed (fused es))) (startOf n swaps) ∙ zero-add (classified (reverse (compressed (fused es))))

@@ -21,10 +21,10 @@ use Rattle.fuse.proofs.Places.{one-at, two-at, three-at, gone-at}
 use Rattle.resolve.specs.declared.choose.Search.{Search}
 use Rattle.resolve.specs.declared.settle.Tally.{Tally}
 use Rattle.resolve.specs.Cuts.{ahead, cuts, prefixOf}
-use Rattle.resolve.specs.Choose.{chooseOf}
+use Rattle.resolve.specs.Choose.{offers, chooseOf}
 use Rattle.resolve.specs.Resolve.{none, opened, Resolved, passed, settled, closed, candidates, chosen, resolveStep, resolved}
 use Rattle.resolve.specs.Slots.{restAt, itemAt, resolvedAt, todo, firstRow, secondRow, RowOnly, Prefixes, Moved, maxCandidates, Dealt, AllDealt}
-use Rattle.resolve.proofs.Counts.{pairs-few}
+use Rattle.resolve.proofs.Counts.{offers-many, pairs-few}
 use Rattle.resolve.proofs.Choosing.{choose-same}
 use Rattle.resolve.proofs.Tails.{row-only-event}
 use Rattle.resolve.proofs.Records.{marks-same, marks-put, floats-same}
@@ -118,9 +118,9 @@ module _ (relabel : Bool) (tol : Float) (xs xs₁ xs₂ ys : List Float) (us vs 
   lb-is : lb ≡ length (ahead b es)
   lb-is = q .long ∙ ap length second-tail
 
-  tried-is : length (cuts la) * length (cuts lb) ≡ candidates a b es
+  tried-here : length (cuts la) * length (cuts lb) ≡ candidates a b es
   unfolding candidates
-  tried-is = ap₂ (λ x y. length (cuts x) * length (cuts y)) (p .long) lb-is
+  tried-here = sym (offers-many la lb) ∙ ap₂ (λ x y. length (offers x y)) (p .long) lb-is
 
   pub block-chosen : (base : Mat4) (s : Search) → base ≡ mul4Of (matrix4Of xs i) (kronOf (opened (restAt xs us g a)) (opened (restAt xs us g b)))
       → s ≡ chooseOf relabel tol base (firstRow xs₂) (secondRow xs₂) la lb → s ≡ chosen relabel tol a b (matrix4Of xs i) es r
@@ -141,7 +141,7 @@ module _ (relabel : Bool) (tol : Float) (xs xs₁ xs₂ ys : List Float) (us vs 
       size = m .size ∙ q .only .size ∙ p .only .size;
       marks = m .marks;
       state = m .state ∙ ap (settled a b tried (s .best) (s .angled)) same-state
-          ∙ ap₂ (λ k (s : Search). settled a b k (s .best) (s .angled) r) (et ∙ tried-is) e;
+          ∙ ap₂ (λ k (s : Search). settled a b k (s .best) (s .angled) r) (et ∙ tried-here) e;
       later = λ j x y. m .later j x y ∙ same-event j;
       lab = m .lab;
       within = m .within;

@@ -1,7 +1,7 @@
 -- The choice of a block's cuts (000, `fuse`, its second loop): every pair of cuts is tried, those of the first slot outside, and the first of the best
 -- scores is kept. A score is (rank, residual for rank 2 and 0.0 otherwise, gates taken). Assumes nothing. A public promise rests on this.
 use mathlib.Core.Bool.{Bool, false, cond, _&&_, _||_}
-use mathlib.Core.List.{List, [], _∷_}
+use mathlib.Core.List.{List, [], _∷_, _++_}
 use Prim.Native.Nat.{ℕ, _+_}
 use lib.Dec.{eqb, ltb}
 use lib.Ieee.{Float, lt, eq}
@@ -48,18 +48,36 @@ offerOf ka kb c s = record {
   angled = s .angled || c .angled;
 }
 
+-- a candidate before it is classified: cut ka of the first tail, cut kb of the second
+pub record Offer : Type 0 where
+  pub ka : ℕ
+  pub kb : ℕ
+
+-- cut ka with each cut of the second tail
+unfoldable pub offersOf : ℕ → List ℕ → List Offer
+offersOf ka [] = []
+offersOf ka (kb ∷ kbs) = record { ka = ka; kb = kb } ∷ offersOf ka kbs
+
+-- each cut of the first tail with each of the second
+unfoldable pub allOffers : List ℕ → List ℕ → List Offer
+allOffers [] kbs = []
+allOffers (ka ∷ kas) kbs = offersOf ka kbs ++ allOffers kas kbs
+
+-- the candidates of tails of la and lb gates, in the order in which they are tried
+abbrev pub offers : ℕ → ℕ → List Offer
+offers la lb = allOffers (cuts la) (cuts lb)
+
 -- the block `base` with cuts of its closing tails; pa t and pb t are what cut t gives
 module _ (relabel : Bool) (tol : Float) (base : Mat4) (pa pb : ℕ → Mat2) where
-  -- cut ka with each cut of the second tail
-  unfoldable pub tryRow : ℕ → List ℕ → Search → Search
-  tryRow ka [] s = s
-  tryRow ka (kb ∷ kbs) s = tryRow ka kbs (offerOf ka kb (classify2Of relabel tol (mul4Of (kronOf (pa ka) (pb kb)) base)) s)
+  -- the class that the block then has
+  abbrev pub classOf : Offer → Class2
+  classOf o = classify2Of relabel tol (mul4Of (kronOf (pa (o .ka)) (pb (o .kb))) base)
 
-  -- each cut of the first tail, with each of the second
-  unfoldable pub tryAll : List ℕ → List ℕ → Search → Search
-  tryAll [] kbs s = s
-  tryAll (ka ∷ kas) kbs s = tryAll kas kbs (tryRow ka kbs s)
+  -- each candidate is classified, once
+  unfoldable pub tryEach : List Offer → Search → Search
+  tryEach [] s = s
+  tryEach (o ∷ os) s = tryEach os (offerOf (o .ka) (o .kb) (classOf o) s)
 
   -- tails of la and lb gates
   unfoldable pub chooseOf : ℕ → ℕ → Search
-  chooseOf la lb = tryAll (cuts la) (cuts lb) (record { best = noChoice base; angled = false })
+  chooseOf la lb = tryEach (offers la lb) (record { best = noChoice base; angled = false })

@@ -4,7 +4,7 @@
 -- A public promise rests on this.
 use mathlib.Core.Bool.{Bool, false, cond, _||_}
 use mathlib.Core.List.{List, [], _∷_, _++_}
-use Prim.Native.Nat.{ℕ, zero, suc, _+_, _*_, _-_}
+use Prim.Native.Nat.{ℕ, zero, suc, _+_, _-_}
 use lib.Dec.{eqb}
 use lib.ListN.{length, getD, set}
 use lib.Ieee.{Float}
@@ -19,8 +19,8 @@ use Rattle.resolve.specs.declared.choose.Choice.{Choice}
 use Rattle.resolve.specs.declared.choose.Search.{Search}
 use Rattle.resolve.specs.Items as Items
 use Rattle.resolve.specs.Items.{Item, kindOf}
-use Rattle.resolve.specs.Cuts.{ahead, cuts, prefixOf}
-use Rattle.resolve.specs.Choose.{chooseOf}
+use Rattle.resolve.specs.Cuts.{ahead, prefixOf}
+use Rattle.resolve.specs.Choose.{offers, chooseOf}
 
 -- ---- remainders
 
@@ -135,9 +135,17 @@ closed a b c r = added Items.opaque 0 0 false (emptied c 0 (emptied b 0 (emptied
 
 -- ---- the events, the oldest first
 
--- how many candidates the block on (a, b) has that the events `es` follow
+-- how many candidates the block on (a, b) has that the events `es` follow: each of them is classified, once
 unfoldable pub candidates : ℕ → ℕ → List Event → ℕ
-candidates a b es = length (cuts (length (ahead a es))) * length (cuts (length (ahead b es)))
+candidates a b es = length (offers (length (ahead a es)) (length (ahead b es)))
+
+-- "the number of candidate cuts classified": of all blocks
+unfoldable pub classified : List Event → ℕ
+classified [] = 0
+classified (gone ∷ es) = classified es
+classified (one w m ∷ es) = classified es
+classified (two a b u ∷ es) = candidates a b es + classified es
+classified (three a b c ∷ es) = classified es
 
 module _ (relabel : Bool) (tol : Float) where
   -- the choice for the block u on (a, b)

@@ -3,7 +3,7 @@ ghost use mathlib.Core.Path.{_≡_};
 ghost use Prim.Native.Nat.{_+_, _*_, _≤_, _<_};
 ghost use lib.ListN.{length};
 ghost use Rattle.resolve.specs.Cuts.{cuts};
-ghost use Rattle.resolve.specs.Choose.{candidateOf, betterOf, offerOf, tryRow, chooseOf};
+ghost use Rattle.resolve.specs.Choose.{candidateOf, betterOf, offerOf, offersOf, tryEach, chooseOf};
 ghost use Rattle.resolve.specs.Slots.{firstRow, secondRow};
 use crate::cuts::in_window;
 use classify::Class2;
@@ -108,7 +108,7 @@ fn try_row(
     start: Search,
 ) -> Search
     requires { ⌜ (64 * ka + 64 ≤ length (now w)) × (64 * lb + 64 ≤ length (now w)) × (ka < 65536) × (lb < 65535) ⌝ }
-    ensures { λ r. ⌜ r ≡ tryRow relabel tol base (firstRow (now (w .entry))) (secondRow (now (w .entry))) ka (cuts lb) start ⌝ }
+    ensures { λ r. ⌜ r ≡ tryEach relabel tol base (firstRow (now (w .entry))) (secondRow (now (w .entry))) (offersOf ka (cuts lb)) start ⌝ }
 {
     let ma = load2(w, 64 * ka + FIRST_ROW);
     let mut s = start;

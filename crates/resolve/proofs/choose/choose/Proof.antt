@@ -5,14 +5,14 @@ use native.Mathlib.Omega.{arith}
 use Prim.Native.Nat.{_+_, _-_, _≤_}
 use mathlib.Core.Logic.{⊎-elim}
 use Rattle.resolve.specs.Cuts.{cuts}
-use Rattle.resolve.specs.Choose.{tryAll, chooseOf}
+use Rattle.resolve.specs.Choose.{allOffers, tryEach, chooseOf}
 use Rattle.resolve.specs.Slots.{firstRow, secondRow}
 use Rattle.resolve.proofs.Choosing.{cutsFrom, all-start, all-end, all-tried, all-passed}
 use Rattle.resolve.proofs.choose.choose.Statement.{statement}
 use Rattle.resolve.proofs.choose.choose.Tie as tie
 
 abbrev Inv-loop : tie.InvT-loop
-Inv-loop w relabel tol base la lb s₀ ka₀ s ka = (ka ≤ la + 1) × (tryAll relabel tol base (firstRow w) (secondRow w) (cutsFrom la ka) (cuts lb) s ≡ chooseOf relabel tol base (firstRow w) (secondRow w) la lb)
+Inv-loop w relabel tol base la lb s₀ ka₀ s ka = (ka ≤ la + 1) × (tryEach relabel tol base (firstRow w) (secondRow w) (allOffers (cutsFrom la ka) (cuts lb)) s ≡ chooseOf relabel tol base (firstRow w) (secondRow w) la lb)
 
 abbrev μ-loop : tie.MeasureT-loop
 μ-loop w relabel tol base la lb s₀ ka₀ s ka = la + 1 - ka
@@ -41,10 +41,10 @@ loop-again c =
       omega (arith, c .before .before .loop-test .taken),
       ⊎-elim
           (λ w.
-          ap (tryAll (a .relabel) (a .tol) (a .base) (firstRow (a .w .now)) (secondRow (a .w .now)) (cutsFrom (a .la) (l .ka + 1)) (cuts (a .lb))) (w .2 ∙ w .1 .ensures)
+          ap (tryEach (a .relabel) (a .tol) (a .base) (firstRow (a .w .now)) (secondRow (a .w .now)) (allOffers (cutsFrom (a .la) (l .ka + 1)) (cuts (a .lb)))) (w .2 ∙ w .1 .ensures)
           ∙ sym (all-tried (a .relabel) (a .tol) (a .base) (firstRow (a .w .now)) (secondRow (a .w .now)) (a .la) (l .ka) (cuts (a .lb)) (l .s) (c .before .before .loop-test .taken) (sym (c .before .in-window .ensures) ∙ w .0 .taken)) ∙ l .inv .1)
           (λ w.
-          ap (tryAll (a .relabel) (a .tol) (a .base) (firstRow (a .w .now)) (secondRow (a .w .now)) (cutsFrom (a .la) (l .ka + 1)) (cuts (a .lb))) (w .1)
+          ap (tryEach (a .relabel) (a .tol) (a .base) (firstRow (a .w .now)) (secondRow (a .w .now)) (allOffers (cutsFrom (a .la) (l .ka + 1)) (cuts (a .lb)))) (w .1)
           ∙ sym (all-passed (a .relabel) (a .tol) (a .base) (firstRow (a .w .now)) (secondRow (a .w .now)) (a .la) (l .ka) (cuts (a .lb)) (l .s) (c .before .before .loop-test .taken) (sym (c .before .in-window .ensures) ∙ w .0 .left)) ∙ l .inv .1)
           (c .if1 .came),
     )

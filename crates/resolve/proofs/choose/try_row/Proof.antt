@@ -8,14 +8,14 @@ use mathlib.Core.Logic.{⊎-elim}
 use Rattle.gate.specs.Matrix.{kronOf, mul4Of}
 use Rattle.classify.specs.Classify.{classify2Of}
 use Rattle.resolve.specs.Cuts.{cuts}
-use Rattle.resolve.specs.Choose.{offerOf, tryRow}
+use Rattle.resolve.specs.Choose.{offerOf, offersOf, tryEach}
 use Rattle.resolve.specs.Slots.{firstRow, secondRow}
 use Rattle.resolve.proofs.Choosing.{cutsFrom, from-start, row-end, row-tried, row-passed}
 use Rattle.resolve.proofs.choose.try_row.Statement.{statement}
 use Rattle.resolve.proofs.choose.try_row.Tie as tie
 
 abbrev Inv-loop : tie.InvT-loop
-Inv-loop w relabel tol base ka lb ma s₀ kb₀ s kb = (kb ≤ lb + 1) × (ma ≡ firstRow w ka) × (tryRow relabel tol base (firstRow w) (secondRow w) ka (cutsFrom lb kb) s ≡ tryRow relabel tol base (firstRow w) (secondRow w) ka (cuts lb) s₀)
+Inv-loop w relabel tol base ka lb ma s₀ kb₀ s kb = (kb ≤ lb + 1) × (ma ≡ firstRow w ka) × (tryEach relabel tol base (firstRow w) (secondRow w) (offersOf ka (cutsFrom lb kb)) s ≡ tryEach relabel tol base (firstRow w) (secondRow w) (offersOf ka (cuts lb)) s₀)
 
 abbrev μ-loop : tie.MeasureT-loop
 μ-loop w relabel tol base ka lb ma s₀ kb₀ s kb = lb + 1 - kb
@@ -32,7 +32,7 @@ load2-requires c κs = omega (arith, c .before .pre, c .before .good)
 loop-holds : tie.Need-loop-holds Inv-loop μ-loop
 loop-holds c =
     let a = c .before .before .args in
-    (omega arith, c .load2 .ensures, ap (λ l. tryRow (a .relabel) (a .tol) (a .base) (firstRow (a .w .now)) (secondRow (a .w .now)) (a .ka) l (a .start)) (from-start (a .lb)))
+    (omega arith, c .load2 .ensures, ap (λ l. tryEach (a .relabel) (a .tol) (a .base) (firstRow (a .w .now)) (secondRow (a .w .now)) (offersOf (a .ka) l) (a .start)) (from-start (a .lb)))
 
 in-window-requires : tie.Need-in-window-requires Inv-loop μ-loop
 in-window-requires c κs = omega (arith, c .before .before .before .before .pre, c .before .before .before .before .good, c .loop-test .taken)
@@ -63,11 +63,11 @@ loop-again c =
       l .inv .1,
       ⊎-elim
           (λ w.
-          ap (tryRow (a .relabel) (a .tol) (a .base) (firstRow (a .w .now)) (secondRow (a .w .now)) (a .ka) (cutsFrom (a .lb) (l .kb + 1)))
+          ap (tryEach (a .relabel) (a .tol) (a .base) (firstRow (a .w .now)) (secondRow (a .w .now)) (offersOf (a .ka) (cutsFrom (a .lb) (l .kb + 1))))
           (w .6 ∙ w .5 .ensures ∙ ap (λ c. offerOf (a .ka) (l .kb) c (l .s)) (w .4 .ensures ∙ ap (classify2Of (a .relabel) (a .tol)) (w .3 .ensures ∙ ap (λ k. mul4Of k (a .base)) (w .2 .ensures ∙ ap₂ kronOf (l .inv .1) (w .1 .ensures)))))
           ∙ sym (row-tried (a .relabel) (a .tol) (a .base) (firstRow (a .w .now)) (secondRow (a .w .now)) (a .ka) (a .lb) (l .kb) (l .s) (c .before .before .loop-test .taken) (sym (c .before .in-window .ensures) ∙ w .0 .taken)) ∙ l .inv .2)
           (λ w.
-          ap (tryRow (a .relabel) (a .tol) (a .base) (firstRow (a .w .now)) (secondRow (a .w .now)) (a .ka) (cutsFrom (a .lb) (l .kb + 1))) (w .1)
+          ap (tryEach (a .relabel) (a .tol) (a .base) (firstRow (a .w .now)) (secondRow (a .w .now)) (offersOf (a .ka) (cutsFrom (a .lb) (l .kb + 1)))) (w .1)
           ∙ sym (row-passed (a .relabel) (a .tol) (a .base) (firstRow (a .w .now)) (secondRow (a .w .now)) (a .ka) (a .lb) (l .kb) (l .s) (c .before .before .loop-test .taken) (sym (c .before .in-window .ensures) ∙ w .0 .left)) ∙ l .inv .2)
           (c .if1 .came),
     )
