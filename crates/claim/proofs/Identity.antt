@@ -7,11 +7,10 @@ use mathlib.Core.List.{List, [], _∷_}
 use Prim.Native.Nat.{ℕ, _+_, _-_, _<_}
 use native.Mathlib.Nat.{le-refl}
 use native.Mathlib.Omega.{arith}
-use lib.Dec.{eqb, ltb}
+use lib.Dec.{ltb}
 use borrow.Author.Tests.{eq-eqb, lt-ltb, le-ltb}
 use Rattle.laws.specs.Lists.{All}
 use Rattle.laws.proofs.Lists.{all-append}
-use Rattle.work.specs.Columns.{matchItem}
 use Rattle.order.specs.declared.edges.Edge.{Edge}
 use Rattle.order.specs.Weights.{pairOf, edgesOf, weighsOf}
 use Rattle.order.specs.Cover.{wires}
@@ -19,7 +18,7 @@ use Rattle.order.specs.Arrangement.{find, besideOf}
 use Rattle.order.specs.Choice.{coveredBy, coveredOf, identityOf, improvedOf, arrangeOf, chooseOrderOf}
 use Rattle.order.proofs.Permutation.{wire-mode}
 use Rattle.order.proofs.EdgeWires.{OnPair, OnEdge, pair-on, edges-all}
-use Rattle.resolve.specs.Items.{Item, one, two, opaque}
+use Rattle.resolve.specs.Items.{Item, one, two, opaque, isMatchgate}
 use Rattle.detect.specs.Compile.{matchPairs}
 use Rattle.register.specs.Register.{Beside}
 use Rattle.register.specs.Follows.{GaussianItem}
@@ -71,7 +70,7 @@ pairs-near : (n : ℕ) (xs : List Item) → All (GaussianItem n) xs → All (OnP
 unfolding matchPairs
 pairs-near n [] h = tt
 pairs-near n (one w m ∷ xs) h = pairs-near n xs (h .1)
-pairs-near n (two kind a b r v ∷ xs) (g, h) = all-append (OnPair (Near n)) (matchPairs xs) _ (pairs-near n xs h) (by (eqb kind matchItem))
+pairs-near n (two kind a b r v ∷ xs) (g, h) = all-append (OnPair (Near n)) (matchPairs xs) _ (pairs-near n xs h) (by (isMatchgate kind))
   where
     by : (t : Bool) → All (OnPair (Near n)) (cond t (pairOf a b ∷ []) [])
     by true = (pair-near n a b (g .0) (g .1) (g .2), tt)

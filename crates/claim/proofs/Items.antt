@@ -11,7 +11,7 @@ use Rattle.laws.specs.Bounds.{maxQubits}
 use Rattle.gate.specs.declared.matrix.Mat4.{Mat4}
 use Rattle.classify.specs.Diagonal.{interactionOf, unitOf}
 use Rattle.monomial.specs.Monomial.{Mono4, Has4, diagonal}
-use Rattle.resolve.specs.Items.{Item, one, two, opaque}
+use Rattle.resolve.specs.Items.{Item, one, two, opaque, ItemKind, matchgate, phaseless, interacting, neither}
 use Rattle.detect.specs.Counts.{twoShare}
 use Rattle.detect.specs.Operation.{interaction}
 use Rattle.detect.specs.Emit.{rotationsOf, twoOperations, itemOperations, operationsOf}
@@ -20,7 +20,7 @@ use Rattle.basis.specs.Holds.{HoldsBits}
 use Rattle.basis.proofs.Steps.{vacuum-holds}
 use Rattle.evolve.specs.Evolve.{evolvedFrom}
 use Rattle.register.specs.Bits.{turn2, zeros}
-use Rattle.register.specs.Blocks.{KindIs, matchgate, phaseless, interacting, neither, ItemIs}
+use Rattle.register.specs.Blocks.{KindIs, ItemIs}
 use Rattle.register.proofs.Changes.{diagonal-still}
 use Rattle.claim.specs.Modes.{modeBits, modesRun}
 use Rattle.claim.proofs.Modes.{Apart}
@@ -34,26 +34,23 @@ use Rattle.claim.proofs.Matchgates.{turn-holds, match-holds}
 module _ (n : ℕ) (few : n ≤ maxQubits) (block i j : ℕ) (li : i < n) (lj : j < n) (v : Mat4) (c : Mono4) (H : Has4 v c) (b : ℕ → Bool)
     (t : State) (h : HoldsBits n b t) where
   -- where the kind is k
-  abbrev Moves : ℕ → Type 0
+  abbrev Moves : ItemKind → Type 0
   Moves k = HoldsBits n (turn2 i j v b) (evolvedFrom n (twoOperations block k i j v) t)
 
   -- a diagonal block changes no bit
   stays : diagonal c ≡ true → (s : State) → HoldsBits n b s → HoldsBits n (turn2 i j v b) s
   stays d s = subst (λ (f : ℕ → Bool). HoldsBits n f s) (sym (diagonal-still i j v c H d b))
 
-  pub two-moves : (relabel : Bool) (kind : ℕ) (r : Float) → KindIs relabel c kind → twoShare kind i j r v .bad ≡ 0 → Moves kind
+  pub two-moves : (relabel : Bool) (kind : ItemKind) (r : Float) → KindIs relabel c kind → twoShare kind i j r v .bad ≡ 0 → Moves kind
   unfolding twoOperations
-  two-moves relabel kind r (matchgate e F d) free =
-      subst Moves (sym e) (match-holds n few b t h i j v c H F li lj (beside i j r v (subst (λ k. twoShare k i j r v .bad ≡ 0) e free)))
-  two-moves relabel kind r (phaseless e F d) free =
-      subst Moves (sym e)
-      (stays d (evolvedFrom n (rotationsOf i j v) t) (rotations-hold n few b i j li lj v (diagonal-phased v c H d) t h))
-  two-moves relabel kind r (interacting e s F d) free =
+  two-moves relabel matchgate r (F, d) free = match-holds n few b t h i j v c H F li lj (beside i j r v free)
+  two-moves relabel phaseless r (F, d) free =
+      stays d (evolvedFrom n (rotationsOf i j v) t) (rotations-hold n few b i j li lj v (diagonal-phased v c H d) t h)
+  two-moves relabel interacting r (s, F, d) free =
       let w = unitOf (interactionOf v) in
-      subst Moves (sym e)
-      (stays d (evolvedFrom n (rotationsOf i j v ++ (interaction i block j w ∷ [])) t)
-      (interactions-hold n few b i j li lj v (diagonal-phased v c H d) t h block w))
-  two-moves relabel kind r (neither e s F d) free = absurd (not-neither i j r v (subst (λ k. twoShare k i j r v .bad ≡ 0) e free))
+      stays d (evolvedFrom n (rotationsOf i j v ++ (interaction i block j w ∷ [])) t)
+      (interactions-hold n few b i j li lj v (diagonal-phased v c H d) t h block w)
+  two-moves relabel neither r k free = absurd (not-neither i j r v free)
 
 -- ---- items
 

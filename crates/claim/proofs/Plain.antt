@@ -1,7 +1,6 @@
 -- Demand 3's last sentence, up to the lengths of slices and the limit: a register tape without Swap, on neighbouring pairs, has no bad blocks and no
 -- interactions, whatever its flags and tolerance. Its items are Gaussian and every wire is its own mode. Assumes nothing.
 use mathlib.Core.Path.{_≡_, refl, sym, ap, ap₂, subst, _∙_}
-use mathlib.Core.Logic.{_⊎_, inl, inr}
 use mathlib.Core.Bool.{Bool, true, cond}
 use mathlib.Core.List.{List, [], _∷_, List·Memᴰ}
 use Prim.Native.Nat.{ℕ, _+_, _<_}
@@ -14,7 +13,6 @@ use Rattle.gate.specs.declared.matrix.Mat4.{Mat4}
 use Rattle.tape.specs.Parse.{Content, accepted, parse}
 use Rattle.tape.specs.declared.header.Header.{Header}
 use Rattle.tape.specs.declared.gates.Gate.{Gate}
-use Rattle.work.specs.Columns.{matchItem, diagonalItem}
 use Rattle.majorana.specs.Majorana.{majoranaMap1Of, majoranaMap2Of}
 use Rattle.monomial.specs.Tolerance.{Tolerance}
 use Rattle.monomial.proofs.Complexes.{zero-is}
@@ -22,13 +20,13 @@ use Rattle.monomial.proofs.Tolerances.{zero-passes}
 use Rattle.monomial.proofs.Single.{residual-single}
 use Rattle.order.specs.Arrangement.{find, besideOf}
 use Rattle.order.proofs.Permutation.{wire-mode}
-use Rattle.resolve.specs.Items.{Item, one, two, opaque}
+use Rattle.resolve.specs.Items.{Item, one, two, opaque, ItemKind, matchgate, phaseless, interacting, neither}
 use Rattle.detect.specs.declared.count.Counts.{Counts}
 use Rattle.detect.specs.Emit.{orientedOf}
 use Rattle.detect.specs.Counts.{apart, oneShare, adjacentShare, matchShare, twoShare, plusOf, shareOf, countedOnto, countsOf}
 use Rattle.detect.specs.Compile.{relabelsOf, reordersOf, labelsOf, itemsOf, orderOf, modeOfWire, modeOfQubit, tapeCounts}
 use Rattle.register.specs.Register.{RegisterTape, PlainGate}
-use Rattle.register.specs.Blocks.{Turn}
+use Rattle.register.specs.Blocks.{Turn, GaussianKind}
 use Rattle.register.specs.Follows.{GaussianItem, Plain}
 use Rattle.register.proofs.Tapes.{tolerance, tape-plain}
 use Rattle.claim.proofs.Identity.{beside-modes, plain-order}
@@ -55,10 +53,12 @@ module _ (tol : Float) (ok : Tolerance tol) (n : ℕ) (pos : ℕ → ℕ) (own :
   unfolding matchShare adjacentShare
   match-clear i j r v h = subst (λ (t : Bool). Clear (cond t (adjacentShare r (majoranaMap2Of (orientedOf i j v))) apart)) (sym h) (refl, refl, refl)
 
-  two-clear : (kind i j : ℕ) (r : Float) (v : Mat4) → besideOf i j ≡ true → (kind ≡ matchItem) ⊎ (kind ≡ diagonalItem) → Clear (twoShare kind i j r v)
+  two-clear : (kind : ItemKind) (i j : ℕ) (r : Float) (v : Mat4) → besideOf i j ≡ true → GaussianKind kind → Clear (twoShare kind i j r v)
   unfolding twoShare
-  two-clear kind i j r v h (inl e) = rw e (match-clear i j r v h)
-  two-clear kind i j r v h (inr e) = rw e (refl, refl, refl)
+  two-clear matchgate i j r v h g = match-clear i j r v h
+  two-clear phaseless i j r v h g = (refl, refl, refl)
+  two-clear interacting i j r v h g = absurd g
+  two-clear neither i j r v h g = absurd g
 
   share-clear : (x : Item) → GaussianItem n x → Clear (shareOf tol pos x)
   share-clear (one w u) (l, t) = one-clear u t

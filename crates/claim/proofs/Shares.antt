@@ -9,8 +9,7 @@ use Rattle.laws.specs.Lists.{All}
 use Rattle.gate.specs.declared.matrix.Mat4.{Mat4}
 use Rattle.majorana.specs.Majorana.{majoranaMap2Of}
 use Rattle.order.specs.Arrangement.{besideOf}
-use Rattle.work.specs.Columns.{matchItem, neitherItem}
-use Rattle.resolve.specs.Items.{Item}
+use Rattle.resolve.specs.Items.{Item, matchgate, neither}
 use Rattle.detect.specs.Emit.{orientedOf}
 use Rattle.detect.specs.Counts.{apart, adjacentShare, matchShare, twoShare, plusOf, shareOf, countedOnto, countsOf}
 
@@ -26,7 +25,7 @@ all-free tol pos (x ∷ xs) e =
     (omega arith, all-free tol pos xs (omega arith))
 
 -- a matchgate on modes that are not neighbours is bad
-pub beside : (i j : ℕ) (r : Float) (v : Mat4) → twoShare matchItem i j r v .bad ≡ 0 → besideOf i j ≡ true
+pub beside : (i j : ℕ) (r : Float) (v : Mat4) → twoShare matchgate i j r v .bad ≡ 0 → besideOf i j ≡ true
 unfolding twoShare matchShare
 beside i j r v = by (besideOf i j)
   where
@@ -35,6 +34,6 @@ beside i j r v = by (besideOf i j)
     by false e = absurd (omega arith)
 
 -- what is neither is bad
-pub not-neither : (i j : ℕ) (r : Float) (v : Mat4) → twoShare neitherItem i j r v .bad ≡ 0 → ⊥
+pub not-neither : (i j : ℕ) (r : Float) (v : Mat4) → twoShare neither i j r v .bad ≡ 0 → ⊥
 unfolding twoShare
 not-neither i j r v e = let z : _≡_ {A = ℕ} 1 0 = e in omega arith

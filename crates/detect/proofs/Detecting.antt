@@ -34,8 +34,8 @@ use Rattle.order.specs.Pairs.{pairsOf, pairsIn, WiresBelow}
 use Rattle.order.specs.Slice.{columns, Arranges}
 use Rattle.order.proofs.Permutation.{order-permutes}
 use Rattle.resolve.specs.declared.settle.Tally.{Tally}
-use Rattle.resolve.specs.Items.{Item, newestFirst, ItemsBelow}
-use Rattle.resolve.specs.Slots.{itemAt}
+use Rattle.resolve.specs.Items.{Item, matchgate, phaseless, interacting, neither, isMatchgate, newestFirst, ItemsBelow}
+use Rattle.resolve.specs.Slots.{kindAt, itemAt}
 use Rattle.resolve.specs.Whole.{fusedAt, Whole}
 use Rattle.resolve.proofs.Wholes.{gates-fused}
 use Rattle.detect.specs.Counts.{countsOf}
@@ -59,6 +59,17 @@ pairs-append (x ∷ a) b = go (eqb (x .kind) matchItem) (pairs-append a b)
     go true e = ap (λ l. pairOf (x .a) (x .b) ∷ l) e
     go false e = e
 
+-- the mark says whether the item is a matchgate
+kind-match : (k : ℕ) → isMatchgate (kindAt k) ≡ eqb k matchItem
+unfolding kindAt
+kind-match k = by (eqb k 5) (eqb k 6) (eqb k 7)
+  where
+    by : (a b c : Bool) → isMatchgate (cond a matchgate (cond b phaseless (cond c interacting neither))) ≡ a
+    by true b c = refl
+    by false true c = refl
+    by false false true = refl
+    by false false false = refl
+
 module _ (xs : List Float) (us : List ℕ) where
   abbrev last : ℕ → List Pair
   last i = cond (eqb (markAt us i kindColumn) matchItem) (pairOf (markAt us i aColumn) (markAt us i bColumn) ∷ []) []
@@ -79,7 +90,7 @@ module _ (xs : List Float) (us : List ℕ) where
           → matchPairs (recordItem xs us i ∷ l) ≡ matchPairs l ++ last i
       go (inl q) r = rw q (sym (append-nil (matchPairs l)))
       go (inr p) (inl q) = rw q (sym (append-nil (matchPairs l)))
-      go (inr p) (inr q) = rw (ne-eqb (markAt us i kindColumn) 4 p, ne-eqb (markAt us i kindColumn) 9 q)
+      go (inr p) (inr q) = rw (ne-eqb (markAt us i kindColumn) 4 p, ne-eqb (markAt us i kindColumn) 9 q, kind-match (markAt us i kindColumn))
 
   -- a record without an item is no matchgate
   no-match : (i : ℕ) → isItemOf (markAt us i kindColumn) ≡ false → last i ≡ []

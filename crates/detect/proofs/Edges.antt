@@ -47,7 +47,6 @@ use Rattle.order.specs.Choice.{Arrangement, chooseOrderOf}
 use Rattle.fuse.specs.Relabel.{labelled, unlabelled}
 use Rattle.fuse.specs.Fuse.{fused}
 use Rattle.fuse.specs.Compress.{compressed}
-use Rattle.work.specs.Columns.{matchItem, interactionItem}
 use Rattle.resolve.specs.Items as Items
 use Rattle.resolve.specs.Items.{Item}
 use Rattle.resolve.specs.Cuts.{ones, ahead, keep, cuts, prefixOf}
@@ -121,10 +120,10 @@ fusing h gs x e l = record {
   angle = ap (λ x. x .angled) e;
 }
 
-pub fusings : Fusing (header 3 2) iswap (Items.two matchItem 0 2 f0 gateISwap ∷ []) (0 ∷ 1 ∷ 2 ∷ []) 0 false
-    × Fusing (header 3 0) iswap (Items.two matchItem 0 2 f0 gateISwap ∷ []) (0 ∷ 1 ∷ 2 ∷ []) 0 false
-    × Fusing (header 2 1) cz (Items.two matchItem 0 1 f0 (swap4Of gateCz) ∷ []) (1 ∷ 0 ∷ []) 1 true
-    × Fusing (header 2 0) cz (Items.two interactionItem 0 1 f0 gateCz ∷ []) (0 ∷ 1 ∷ []) 0 true
+pub fusings : Fusing (header 3 2) iswap (Items.two Items.matchgate 0 2 f0 gateISwap ∷ []) (0 ∷ 1 ∷ 2 ∷ []) 0 false
+    × Fusing (header 3 0) iswap (Items.two Items.matchgate 0 2 f0 gateISwap ∷ []) (0 ∷ 1 ∷ 2 ∷ []) 0 false
+    × Fusing (header 2 1) cz (Items.two Items.matchgate 0 1 f0 (swap4Of gateCz) ∷ []) (1 ∷ 0 ∷ []) 1 true
+    × Fusing (header 2 0) cz (Items.two Items.interacting 0 1 f0 gateCz ∷ []) (0 ∷ 1 ∷ []) 0 true
 unfolding labelsOf labelled unlabelled upFrom offerOf candidateOf levelOf betterOf withRests startOf
 fusings = (
   fusing (header 3 2) iswap _ (wholes .0) refl,

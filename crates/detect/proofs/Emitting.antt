@@ -6,14 +6,12 @@ use mathlib.Core.List.{List, [], _∷_, _++_}
 use Prim.Native.Nat.{ℕ, zero, suc, _+_, _≤_, _<_}
 use native.Mathlib.Numerals.{add-one}
 use native.Mathlib.Omega.{arith}
-use lib.Dec.{eqb}
 use lib.ListN.{length, length-append}
 use lib.Seq.{paste}
 use lib.Ieee.{Float, le}
 use borrow.Author.Tests.{ne-eqb}
 use Rattle.laws.proofs.Cases.{eq-or-ne}
 use Rattle.real.specs.declared.maps.Map2.{Map2}
-use Rattle.gate.specs.Complex.{f0}
 use Rattle.gate.specs.declared.matrix.Mat4.{Mat4}
 use Rattle.work.specs.Marks.{markAt}
 use Rattle.work.specs.Columns.{kindColumn, aColumn, bColumn, matchItem, diagonalItem, interactionItem}
@@ -26,10 +24,11 @@ use Rattle.classify.specs.declared.diagonal.Rotation.{Rotation}
 use Rattle.classify.specs.declared.diagonal.Rotation.the-variants.{By, Nothing}
 use Rattle.order.specs.Arrangement.{besideOf}
 use Rattle.resolve.specs.Items as Items
-use Rattle.resolve.specs.Items.{Item, ItemBelow, ItemsBelow}
+use Rattle.resolve.specs.Items.{Item, ItemKind, ItemBelow, ItemsBelow}
+use Rattle.resolve.specs.Slots.{kindAt}
 use Rattle.detect.specs.Operation.{Operation, one, two, interaction, onePlaces, placesOf, allPlaces, Put}
 use Rattle.detect.specs.Emit.{orientedOf, lowerOf, rotated, rotationsOf, twoOperations, itemOperations, operationsOf}
-use Rattle.detect.specs.Counts.{gaussian, interacting, bad, apart, oneShare, adjacentShare, matchShare, turned, turnsIn, twoShare, plusOf, shareOf, countedOnto, countsOf}
+use Rattle.detect.specs.Counts.{gaussian, bad, apart, oneShare, adjacentShare, matchShare, turned, turnsIn, twoShare, plusOf, shareOf, countedOnto, countsOf}
 use Rattle.detect.specs.Records.{isItemOf, recordItem, itemsIn}
 use Rattle.detect.proofs.Items.{items-more, items-same, items-none, record-two}
 use Rattle.detect.proofs.Placing.{all-append, one-long, put-none, put-one, put-length, put-both}
@@ -100,16 +99,14 @@ match-operations i j r v = go (besideOf i j)
     go true = refl
     go false = refl
 
-two-operations : (block kind i j : ℕ) (r : Float) (v : Mat4) → twoShare kind i j r v .operations ≡ length (twoOperations block kind i j v)
+two-operations : (block : ℕ) (kind : ItemKind) (i j : ℕ) (r : Float) (v : Mat4)
+    → twoShare kind i j r v .operations ≡ length (twoOperations block kind i j v)
 unfolding twoShare twoOperations
-two-operations block kind i j r v = go (eqb kind matchItem) (eqb kind diagonalItem) (eqb kind interactionItem)
-  where
-    go : (a b c : Bool) → cond a (matchShare i j r v) (cond b (gaussian 1 (turnsIn v) f0 true) (cond c (interacting (turnsIn v + 1)) (bad 1 0 r))) .operations
-        ≡ length (cond a (two (lowerOf i j) (majoranaMap2Of (orientedOf i j v) .q) ∷ []) (cond b (rotationsOf i j v) (cond c (rotationsOf i j v ++ (interaction i block j (unitOf (interactionOf v)) ∷ [])) [])))
-    go true b c = match-operations i j r v
-    go false true c = turns-is i j v
-    go false false true = omega (arith, turns-is i j v, length-append (rotationsOf i j v) (interaction i block j (unitOf (interactionOf v)) ∷ []))
-    go false false false = refl
+two-operations block Items.matchgate i j r v = match-operations i j r v
+two-operations block Items.phaseless i j r v = turns-is i j v
+two-operations block Items.interacting i j r v =
+    omega (arith, turns-is i j v, length-append (rotationsOf i j v) (interaction i block j (unitOf (interactionOf v)) ∷ []))
+two-operations block Items.neither i j r v = refl
 
 module _ (tol : Float) (pos : ℕ → ℕ) where
   item-operations : (block : ℕ) (x : Item) → shareOf tol pos x .operations ≡ length (itemOperations pos block x)
@@ -148,24 +145,25 @@ module _ (n : ℕ) (pos pos′ : ℕ → ℕ) (same : (w : ℕ) → w < n → po
   counts-same tol [] h = refl
   counts-same tol (x ∷ l) h = ap₂ plusOf (counts-same tol l (h .1)) (share-same tol x (h .0))
 
--- ---- by kind
+-- ---- by the mark of the kind
 
-module _ (block kind i j : ℕ) (v : Mat4) where
-  two-match : kind ≡ matchItem → twoOperations block kind i j v ≡ two (lowerOf i j) (majoranaMap2Of (orientedOf i j v) .q) ∷ []
-  unfolding twoOperations
+module _ (block mark i j : ℕ) (v : Mat4) where
+  two-match : mark ≡ matchItem → twoOperations block (kindAt mark) i j v ≡ two (lowerOf i j) (majoranaMap2Of (orientedOf i j v) .q) ∷ []
+  unfolding twoOperations kindAt
   two-match e = rw e refl
 
-  pub two-diagonal : kind ≡ diagonalItem → twoOperations block kind i j v ≡ rotationsOf i j v
-  unfolding twoOperations
+  pub two-diagonal : mark ≡ diagonalItem → twoOperations block (kindAt mark) i j v ≡ rotationsOf i j v
+  unfolding twoOperations kindAt
   two-diagonal e = rw e refl
 
-  pub two-interaction : kind ≡ interactionItem → twoOperations block kind i j v ≡ rotationsOf i j v ++ (interaction i block j (unitOf (interactionOf v)) ∷ [])
-  unfolding twoOperations
+  pub two-interaction : mark ≡ interactionItem
+      → twoOperations block (kindAt mark) i j v ≡ rotationsOf i j v ++ (interaction i block j (unitOf (interactionOf v)) ∷ [])
+  unfolding twoOperations kindAt
   two-interaction e = rw e refl
 
-  pub two-neither : (kind ≡ matchItem → ⊥) → (kind ≡ diagonalItem → ⊥) → (kind ≡ interactionItem → ⊥) → twoOperations block kind i j v ≡ []
-  unfolding twoOperations
-  two-neither a b c = rw (ne-eqb kind matchItem a, ne-eqb kind diagonalItem b, ne-eqb kind interactionItem c)
+  pub two-neither : (mark ≡ matchItem → ⊥) → (mark ≡ diagonalItem → ⊥) → (mark ≡ interactionItem → ⊥) → twoOperations block (kindAt mark) i j v ≡ []
+  unfolding twoOperations kindAt
+  two-neither a b c = rw (ne-eqb mark matchItem a, ne-eqb mark diagonalItem b, ne-eqb mark interactionItem c)
 
 -- the operation of the matchgate of record i
 module _ (xs : List Float) (us : List ℕ) (pos : ℕ → ℕ) where

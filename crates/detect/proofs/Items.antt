@@ -16,7 +16,7 @@ use Rattle.work.specs.Columns.{kindColumn, aColumn, bColumn, oneItem, matchItem
 use Rattle.fuse.specs.Layout.{matrix2Of, matrix4Of}
 use Rattle.resolve.specs.Items as Items
 use Rattle.resolve.specs.Items.{Item, newestFirst, ItemBelow, ItemsBelow}
-use Rattle.resolve.specs.Slots.{item, itemAt, residualAt}
+use Rattle.resolve.specs.Slots.{kindAt, item, itemAt, residualAt}
 use Rattle.detect.specs.Records.{isItemOf, itemBy, recordItem, itemsIn}
 
 -- ---- by kind
@@ -49,7 +49,9 @@ kind-item k a b m x = go (lt-or-le k oneItem) (lt-or-le opaqueItem k)
 module _ (xs : List Float) (us : List ℕ) where
   record-items : (i : ℕ) → itemAt xs us i ≡ cond (isItemOf (markAt us i kindColumn)) (recordItem xs us i ∷ []) []
   unfolding itemAt
-  record-items i = kind-item (markAt us i kindColumn) (markAt us i aColumn) (markAt us i bColumn) (matrix2Of xs i) (Items.two (markAt us i kindColumn) (markAt us i aColumn) (markAt us i bColumn) (residualAt xs i) (matrix4Of xs i))
+  record-items i =
+      kind-item (markAt us i kindColumn) (markAt us i aColumn) (markAt us i bColumn) (matrix2Of xs i)
+      (Items.two (kindAt (markAt us i kindColumn)) (markAt us i aColumn) (markAt us i bColumn) (residualAt xs i) (matrix4Of xs i))
 
   -- ---- one record more
 
@@ -100,7 +102,7 @@ module _ (xs : List Float) (us : List ℕ) where
   record-opaque i e = rw e refl
 
   pub record-two : (i : ℕ) → markAt us i kindColumn ≢ oneItem → markAt us i kindColumn ≢ opaqueItem
-      → recordItem xs us i ≡ Items.two (markAt us i kindColumn) (markAt us i aColumn) (markAt us i bColumn) (residualAt xs i) (matrix4Of xs i)
+      → recordItem xs us i ≡ Items.two (kindAt (markAt us i kindColumn)) (markAt us i aColumn) (markAt us i bColumn) (residualAt xs i) (matrix4Of xs i)
   record-two i a b = rw (ne-eqb (markAt us i kindColumn) oneItem a, ne-eqb (markAt us i kindColumn) opaqueItem b)
 
   pub wires-below : (n i : ℕ) → markAt us i kindColumn ≢ oneItem → markAt us i kindColumn ≢ opaqueItem → ItemBelow n (recordItem xs us i)

@@ -18,7 +18,7 @@ use Rattle.work.specs.Marks.{markAt}
 use Rattle.work.specs.Columns.{kindColumn, aColumn, bColumn}
 use Rattle.order.specs.Arrangement.{besideOf}
 use Rattle.fuse.specs.Layout.{matrix4Of}
-use Rattle.resolve.specs.Slots.{itemAt}
+use Rattle.resolve.specs.Slots.{kindAt, itemAt}
 use Rattle.resolve.proofs.Records.{newest-same, item-alike}
 use Rattle.detect.specs.declared.count.Counts.{Counts}
 use Rattle.detect.specs.Counts.{matchShare, twoShare, plusOf, shareOf}
@@ -128,7 +128,7 @@ module _ (xs : List Float) (us : List ℕ) where
       module _ (e : markAt us i kindColumn ≡ 5) where
         -- a matchgate whose modes are not neighbours is bad
         apart-bad : besideOf first second ≡ false → share .bad ≡ 1
-        unfolding twoShare matchShare
+        unfolding kindAt twoShare matchShare
         apart-bad b = rw (e, b) refl
 
         apart-same : besideOf first second ≡ false → recordKept ys us i ≡ ys

@@ -4,12 +4,9 @@ use mathlib.Core.Bool.{Bool, true, false, cond}
 use mathlib.Core.List.{List, [], _∷_}
 use Prim.Native.Nat.{ℕ, suc, _+_, _*_, _≤_, _<_}
 use native.Mathlib.Omega.{arith}
-use lib.Dec.{eqb}
 use lib.ListN.{length}
 use lib.Ieee.{Float, le}
-use Rattle.gate.specs.Complex.{f0}
 use Rattle.gate.specs.declared.matrix.Mat4.{Mat4}
-use Rattle.work.specs.Columns.{matchItem, diagonalItem, interactionItem}
 use Rattle.order.specs.Arrangement.{besideOf}
 use Rattle.majorana.specs.Majorana.{majoranaMap1Of, majoranaMap2Of}
 use Rattle.majorana.specs.Numbers.{commutesJ2Of}
@@ -18,10 +15,10 @@ use Rattle.classify.specs.Diagonal.{phaseAOf, phaseBOf, rotationOf}
 use Rattle.classify.specs.declared.diagonal.Rotation.{Rotation}
 use Rattle.classify.specs.declared.diagonal.Rotation.the-variants.{By, Nothing}
 use Rattle.resolve.specs.Items as Items
-use Rattle.resolve.specs.Items.{Item}
+use Rattle.resolve.specs.Items.{Item, ItemKind}
 use Rattle.detect.specs.declared.count.Counts.{Counts}
 use Rattle.detect.specs.Emit.{orientedOf}
-use Rattle.detect.specs.Counts.{gaussian, interacting, bad, apart, oneShare, adjacentShare, matchShare, turned, turnsIn, twoShare, none, plusOf, shareOf, countedOnto, countsOf}
+use Rattle.detect.specs.Counts.{gaussian, bad, apart, oneShare, adjacentShare, matchShare, turned, turnsIn, twoShare, none, plusOf, shareOf, countedOnto, countsOf}
 use Rattle.detect.specs.Records.{Small}
 
 -- "blocks = Gaussian + bad + interactions", of so many items
@@ -64,15 +61,13 @@ turns-few v = omega (arith, once (rotationOf (phaseAOf v)), once (rotationOf (ph
     once (By q) = omega arith
     once Nothing = omega arith
 
-two-adds : (kind i j : ℕ) (r : Float) (v : Mat4) → Adds (twoShare kind i j r v) 1
+two-adds : (kind : ItemKind) (i j : ℕ) (r : Float) (v : Mat4) → Adds (twoShare kind i j r v) 1
 unfolding twoShare
-two-adds kind i j r v = go (eqb kind matchItem) (eqb kind diagonalItem) (eqb kind interactionItem)
-  where
-    go : (a b c : Bool) → Adds (cond a (matchShare i j r v) (cond b (gaussian 1 (turnsIn v) f0 true) (cond c (interacting (turnsIn v + 1)) (bad 1 0 r)))) 1
-    go true b c = match-adds i j r v
-    go false true c = gaussian-adds 1 (turnsIn v) _ true (omega arith) (omega (arith, turns-few v))
-    go false false true = record { blocks = refl; items = refl; two = omega arith; nonadjacent = omega arith; operations = omega (arith, turns-few v) }
-    go false false false = bad-adds 1 0 r (omega arith) (omega arith)
+two-adds Items.matchgate i j r v = match-adds i j r v
+two-adds Items.phaseless i j r v = gaussian-adds 1 (turnsIn v) _ true (omega arith) (omega (arith, turns-few v))
+two-adds Items.interacting i j r v =
+    record { blocks = refl; items = refl; two = omega arith; nonadjacent = omega arith; operations = omega (arith, turns-few v) }
+two-adds Items.neither i j r v = bad-adds 1 0 r (omega arith) (omega arith)
 
 -- ---- the sum
 

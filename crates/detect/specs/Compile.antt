@@ -5,7 +5,6 @@ use mathlib.Core.List.{List, [], _∷_, _++_}
 use Prim.Native.Nat.{ℕ, _/_, _%_}
 use lib.Dec.{eqb}
 use lib.ListN.{getD}
-use Rattle.work.specs.Columns.{matchItem}
 use Rattle.tape.specs.declared.header.Header.{Header}
 use Rattle.tape.specs.declared.gates.Gate.{Gate}
 use Rattle.order.specs.Weights.{Pair, pairOf}
@@ -13,7 +12,7 @@ use Rattle.order.specs.Arrangement.{find}
 use Rattle.order.specs.Choice.{Arrangement, chooseOrderOf}
 use Rattle.fuse.specs.Relabel.{Labelled, labelled, unlabelled}
 use Rattle.resolve.specs.Items as Items
-use Rattle.resolve.specs.Items.{Item}
+use Rattle.resolve.specs.Items.{Item, isMatchgate}
 use Rattle.resolve.specs.Whole.{Fused, fuseOf}
 use Rattle.detect.specs.declared.count.Counts.{Counts}
 use Rattle.detect.specs.declared.report.Report.{Report}
@@ -35,7 +34,7 @@ reordersOf h = eqb (h .flags / 2 % 2) 1
 unfoldable pub matchPairs : List Item → List Pair
 matchPairs [] = []
 matchPairs (Items.one w u ∷ xs) = matchPairs xs
-matchPairs (Items.two kind a b r v ∷ xs) = matchPairs xs ++ cond (eqb kind matchItem) (pairOf a b ∷ []) []
+matchPairs (Items.two kind a b r v ∷ xs) = matchPairs xs ++ cond (isMatchgate kind) (pairOf a b ∷ []) []
 matchPairs (Items.opaque ∷ xs) = matchPairs xs
 
 module _ (h : Header) (gs : List Gate) where

@@ -3,12 +3,10 @@
 use mathlib.Core.Bool.{Bool, true, cond, _&&_}
 use mathlib.Core.List.{List, [], _∷_}
 use Prim.Native.Nat.{ℕ, _+_}
-use lib.Dec.{eqb}
 use lib.Ieee.{Float, le}
 use Rattle.num.specs.Order.{maxOf}
 use Rattle.gate.specs.Complex.{f0, f1}
 use Rattle.gate.specs.declared.matrix.Mat4.{Mat4}
-use Rattle.work.specs.Columns.{matchItem, diagonalItem, interactionItem}
 use Rattle.majorana.specs.Majorana.{majoranaMap1Of, majoranaMap2Of}
 use Rattle.majorana.specs.Numbers.{commutesJ2Of, numberConserving4Of}
 use Rattle.majorana.specs.declared.maps.Mapped2.{Mapped2}
@@ -18,7 +16,7 @@ use Rattle.classify.specs.declared.diagonal.Rotation.{Rotation}
 use Rattle.classify.specs.declared.diagonal.Rotation.the-variants.{By, Nothing}
 use Rattle.order.specs.Arrangement.{besideOf}
 use Rattle.resolve.specs.Items as Items
-use Rattle.resolve.specs.Items.{Item}
+use Rattle.resolve.specs.Items.{Item, ItemKind}
 use Rattle.detect.specs.declared.count.Counts.{Counts}
 use Rattle.detect.specs.Emit.{orientedOf}
 
@@ -59,11 +57,11 @@ turned Nothing = 0
 unfoldable pub turnsIn : Mat4 → ℕ
 turnsIn v = turned (rotationOf (phaseAOf v)) + turned (rotationOf (phaseBOf v))
 
-unfoldable pub twoShare : ℕ → ℕ → ℕ → Float → Mat4 → Counts
-twoShare kind i j r v =
-    cond (eqb kind matchItem) (matchShare i j r v)
-    (cond (eqb kind diagonalItem) (gaussian 1 (turnsIn v) f0 true)
-    (cond (eqb kind interactionItem) (interacting (turnsIn v + 1)) (bad 1 0 r)))
+unfoldable pub twoShare : ItemKind → ℕ → ℕ → Float → Mat4 → Counts
+twoShare Items.matchgate i j r v = matchShare i j r v
+twoShare Items.phaseless i j r v = gaussian 1 (turnsIn v) f0 true
+twoShare Items.interacting i j r v = interacting (turnsIn v + 1)
+twoShare Items.neither i j r v = bad 1 0 r
 
 -- ---- the sum
 

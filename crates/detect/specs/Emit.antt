@@ -3,18 +3,17 @@
 use mathlib.Core.Bool.{cond}
 use mathlib.Core.List.{List, [], _∷_, _++_}
 use Prim.Native.Nat.{ℕ}
-use lib.Dec.{eqb, ltb}
+use lib.Dec.{ltb}
 use lib.ListN.{length}
 use lib.Ieee.{Float}
 use Rattle.gate.specs.Matrix.{mat4SwapQubitsOf}
 use Rattle.gate.specs.declared.matrix.Mat4.{Mat4}
-use Rattle.work.specs.Columns.{matchItem, diagonalItem, interactionItem}
 use Rattle.majorana.specs.Majorana.{majoranaMap1Of, majoranaMap2Of}
 use Rattle.classify.specs.Diagonal.{phaseAOf, phaseBOf, interactionOf, unitOf, rotationOf}
 use Rattle.classify.specs.declared.diagonal.Rotation.{Rotation}
 use Rattle.classify.specs.declared.diagonal.Rotation.the-variants.{By, Nothing}
 use Rattle.resolve.specs.Items as Items
-use Rattle.resolve.specs.Items.{Item}
+use Rattle.resolve.specs.Items.{Item, ItemKind}
 use Rattle.detect.specs.Records.{recordItem, itemsIn, modesIn}
 use Rattle.detect.specs.Operation.{Operation, one, two, interaction}
 
@@ -42,11 +41,11 @@ rotationsOf i j v = rotated i (rotationOf (phaseAOf v)) ++ rotated j (rotationOf
 -- ---- items
 
 -- an item on two wires, of modes i and j; it is block number `block`
-unfoldable pub twoOperations : ℕ → ℕ → ℕ → ℕ → Mat4 → List Operation
-twoOperations block kind i j v =
-    cond (eqb kind matchItem) (two (lowerOf i j) (majoranaMap2Of (orientedOf i j v) .q) ∷ [])
-    (cond (eqb kind diagonalItem) (rotationsOf i j v)
-    (cond (eqb kind interactionItem) (rotationsOf i j v ++ (interaction i block j (unitOf (interactionOf v)) ∷ [])) []))
+unfoldable pub twoOperations : ℕ → ItemKind → ℕ → ℕ → Mat4 → List Operation
+twoOperations block Items.matchgate i j v = two (lowerOf i j) (majoranaMap2Of (orientedOf i j v) .q) ∷ []
+twoOperations block Items.phaseless i j v = rotationsOf i j v
+twoOperations block Items.interacting i j v = rotationsOf i j v ++ (interaction i block j (unitOf (interactionOf v)) ∷ [])
+twoOperations block Items.neither i j v = []
 
 module _ (pos : ℕ → ℕ) where
   abbrev pub itemOperations : ℕ → Item → List Operation

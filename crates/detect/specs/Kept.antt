@@ -34,9 +34,9 @@ keptPlace i = 64 * i + 40
 unfoldable pub matchKept : ℕ → ℕ → ℕ → Mat4 → List Float → List Float
 matchKept p i j v l = cond (besideOf i j) (paste l p (matchPlaces i j v) opPlaces) l
 
--- of a block of this kind
+-- of a block whose kind has this mark
 unfoldable pub twoKept : ℕ → ℕ → ℕ → ℕ → Mat4 → List Float → List Float
-twoKept kind p i j v l = cond (eqb kind matchItem) (matchKept p i j v l) l
+twoKept mark p i j v l = cond (eqb mark matchItem) (matchKept p i j v l) l
 
 -- of the item of record i
 abbrev pub recordKept : List Float → List ℕ → ℕ → List Float

@@ -12,7 +12,7 @@ use Rattle.fuse.specs.Layout.{matrix2Of, matrix4Of}
 use Rattle.detect.specs.declared.count.Counts.{Counts}
 use Rattle.resolve.specs.Items as Items
 use Rattle.resolve.specs.Items.{Item, newestFirst, ItemBelow, ItemsBelow}
-use Rattle.resolve.specs.Slots.{residualAt, itemAt}
+use Rattle.resolve.specs.Slots.{kindAt, residualAt, itemAt}
 
 -- record i holds an item
 abbrev pub isItemOf : ℕ → Bool
@@ -25,7 +25,7 @@ itemBy k x y = cond (eqb k oneItem) x (cond (eqb k opaqueItem) Items.opaque y)
 abbrev pub recordItem : List Float → List ℕ → ℕ → Item
 recordItem xs us i =
     itemBy (markAt us i kindColumn) (Items.one (markAt us i aColumn) (matrix2Of xs i))
-    (Items.two (markAt us i kindColumn) (markAt us i aColumn) (markAt us i bColumn) (residualAt xs i) (matrix4Of xs i))
+    (Items.two (kindAt (markAt us i kindColumn)) (markAt us i aColumn) (markAt us i bColumn) (residualAt xs i) (matrix4Of xs i))
 
 -- the items of the first m records
 abbrev pub itemsIn : List Float → List ℕ → ℕ → List Item

@@ -4,6 +4,7 @@ ghost use Prim.Native.Nat.{_+_, _≤_};
 ghost use lib.ListN.{length};
 ghost use Rattle.laws.specs.Bounds.{opPlaces};
 ghost use Rattle.order.specs.Arrangement.{besideOf};
+ghost use Rattle.resolve.specs.Slots.{kindAt};
 ghost use Rattle.detect.specs.Emit.{orientedOf, lowerOf};
 ghost use Rattle.detect.specs.Counts.{gaussian, bad, oneShare, matchShare, turned, turnsIn, twoShare, plusOf, shareOf, countsOf};
 ghost use Rattle.detect.specs.Records.{isItemOf, recordItem, itemsIn, modesIn, ItemThere, Held, Small};
@@ -168,7 +169,7 @@ fn turns_in(v: Mat4) -> u32
 // A block on the modes i and j; of a matchgate the operation is kept from `at` on.
 fn two_share(w: &mut [f64], at: usize, kind: u32, i: u32, j: u32, residual: f64, v: Mat4) -> Counts
     requires { ⌜ at + opPlaces ≤ length (now w) ⌝ }
-    ensures share { λ r. ⌜ r ≡ twoShare kind i j residual v ⌝ }
+    ensures share { λ r. ⌜ r ≡ twoShare (kindAt kind) i j residual v ⌝ }
     ensures kept { λ _. ⌜ now (w .exit) ≡ twoKept kind at i j v (now (w .entry)) ⌝ }
 {
     if kind == MATCH_ITEM {

@@ -4,6 +4,7 @@ ghost use mathlib.Core.Logic.{_≢_};
 ghost use Prim.Native.Nat.{_+_, _≤_};
 ghost use lib.ListN.{length};
 ghost use Rattle.work.specs.Columns.{matchItem};
+ghost use Rattle.resolve.specs.Slots.{kindAt};
 ghost use Rattle.detect.specs.Operation.{allPlaces, written, Put};
 ghost use Rattle.detect.specs.Emit.{rotated, rotationsOf, twoOperations, operationsAt, operationsIn};
 ghost use Rattle.detect.specs.Records.{ItemThere, Held};
@@ -64,8 +65,8 @@ fn put_rotations(ops: &mut [f64], p: usize, i: u32, j: u32, v: Mat4) -> usize
 // A block on the modes i and j that is no matchgate.
 fn put_two(ops: &mut [f64], p: usize, block: u32, kind: u32, i: u32, j: u32, v: Mat4) -> usize
     requires { ⌜ kind ≢ matchItem ⌝ }
-    requires { ⌜ p + length (allPlaces (twoOperations block kind i j v)) ≤ length (now ops) ⌝ }
-    ensures { λ r. ⌜ Put (twoOperations block kind i j v) p (now (ops .entry)) (now (ops .exit)) r ⌝ }
+    requires { ⌜ p + length (allPlaces (twoOperations block (kindAt kind) i j v)) ≤ length (now ops) ⌝ }
+    ensures { λ r. ⌜ Put (twoOperations block (kindAt kind) i j v) p (now (ops .entry)) (now (ops .exit)) r ⌝ }
 {
     if kind == DIAGONAL_ITEM {
         return put_rotations(ops, p, i, j, v);

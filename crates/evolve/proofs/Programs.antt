@@ -3,22 +3,19 @@
 use mathlib.Core.Path.{_≡_, refl}
 use mathlib.Core.Logic.{_⊎_, inl, inr}
 use mathlib.Core.Bool.{Bool, true, false, cond}
-use mathlib.Core.List.{List, [], _∷_, _++_, List·Memᴰ}
+use mathlib.Core.List.{List, [], _∷_, List·Memᴰ}
 use Prim.Native.Nat.{ℕ, _+_, _-_, _≤_, _<_}
 use native.Mathlib.Omega.{arith}
-use lib.Dec.{eqb}
 use lib.ListN.{length}
 use lib.Ieee.{Float}
 use borrow.Author.Tests.{eqb-true, lt-ltb, le-ltb}
 use Rattle.laws.specs.Bounds.{maxQubits}
 use Rattle.laws.proofs.Cases.{lt-or-le}
 use Rattle.laws.proofs.Lists.{all-append}
-use Rattle.gate.specs.Complex.{f0}
 use Rattle.gate.specs.declared.matrix.Mat4.{Mat4}
 use Rattle.tape.specs.Good.{GoodGate}
 use Rattle.tape.specs.declared.header.Header.{Header}
 use Rattle.tape.specs.declared.gates.Gate.{Gate}
-use Rattle.work.specs.Columns.{matchItem, diagonalItem, interactionItem}
 use Rattle.majorana.specs.Majorana.{majoranaMap2Of}
 use Rattle.classify.specs.Diagonal.{phaseAOf, phaseBOf, interactionOf, unitOf, rotationOf}
 use Rattle.classify.specs.declared.diagonal.Rotation.{Rotation}
@@ -26,10 +23,10 @@ use Rattle.classify.specs.declared.diagonal.Rotation.the-variants.{By, Nothing}
 use Rattle.order.specs.Arrangement.{absDiffOf, besideOf}
 use Rattle.order.proofs.Permutation.{order-permutes}
 use Rattle.resolve.specs.Items as Items
-use Rattle.resolve.specs.Items.{Item, ItemBelow, ItemsBelow}
+use Rattle.resolve.specs.Items.{Item, ItemKind, ItemBelow, ItemsBelow}
 use Rattle.detect.specs.Operation.{Operation, one, two, interaction, placesOf}
 use Rattle.detect.specs.Emit.{orientedOf, lowerOf, rotated, rotationsOf, twoOperations, itemOperations, operationsOf}
-use Rattle.detect.specs.Counts.{gaussian, interacting, bad, apart, adjacentShare, matchShare, turnsIn, twoShare, plusOf, shareOf, countedOnto, countsOf}
+use Rattle.detect.specs.Counts.{apart, adjacentShare, matchShare, twoShare, plusOf, shareOf, countedOnto, countsOf}
 use Rattle.detect.specs.Report.{freeOf}
 use Rattle.detect.specs.Compile.{reordersOf, matchPairs, itemsOf, orderOf, modeOfWire, tapeCounts, programOf}
 use Rattle.detect.proofs.Wires.{wires-items}
@@ -79,17 +76,14 @@ module _ (n : ℕ) where
       by true e = refl
       by false e = absurd (omega (arith, e))
 
-  two-fit : (block kind i j : ℕ) (r : Float) (v : Mat4) → i < n → j < n → twoShare kind i j r v .bad ≡ 0 → AllFit n (twoOperations block kind i j v)
+  two-fit : (block : ℕ) (kind : ItemKind) (i j : ℕ) (r : Float) (v : Mat4) → i < n → j < n → twoShare kind i j r v .bad ≡ 0
+      → AllFit n (twoOperations block kind i j v)
   unfolding twoShare twoOperations Fits
-  two-fit block kind i j r v h g e = by (eqb kind matchItem) (eqb kind diagonalItem) (eqb kind interactionItem) e
-    where
-      by : (a b c : Bool) → cond a (matchShare i j r v) (cond b (gaussian 1 (turnsIn v) f0 true) (cond c (interacting (turnsIn v + 1)) (bad 1 0 r))) .bad ≡ 0
-          → AllFit n (cond a (two (lowerOf i j) (majoranaMap2Of (orientedOf i j v) .q) ∷ []) (cond b (rotationsOf i j v)
-          (cond c (rotationsOf i j v ++ (interaction i block j (unitOf (interactionOf v)) ∷ [])) [])))
-      by true b c e = (lower-fits i j h g (match-beside i j r v e), tt)
-      by false true c e = rotations-fit i j v h g
-      by false false true e = all-append (λ o. Fits n (readBack o)) (rotationsOf i j v) (interaction i block j (unitOf (interactionOf v)) ∷ []) (rotations-fit i j v h g) (tt, tt)
-      by false false false e = tt
+  two-fit block Items.matchgate i j r v h g e = (lower-fits i j h g (match-beside i j r v e), tt)
+  two-fit block Items.phaseless i j r v h g e = rotations-fit i j v h g
+  two-fit block Items.interacting i j r v h g e =
+      all-append (λ o. Fits n (readBack o)) (rotationsOf i j v) (interaction i block j (unitOf (interactionOf v)) ∷ []) (rotations-fit i j v h g) (tt, tt)
+  two-fit block Items.neither i j r v h g e = tt
 
   -- ---- the items
 

@@ -19,7 +19,7 @@ use Rattle.monomial.specs.Tolerance.{Tolerance}
 use Rattle.monomial.proofs.Algebra.{times-even, kron-even, renamed-even, times-fits, kron-fits, renamed-fits}
 use Rattle.monomial.proofs.Classes.{swapped, swapped-has, swapped-bitA, swapped-bitB, swapped-even, swapped-fits, classify-fits, classify-unfit, classify-swapped}
 use Rattle.resolve.specs.Items.{kindOf}
-use Rattle.register.specs.Blocks.{Closed, EvenSum, KindIs, matchgate, phaseless, interacting, neither, ClassIs, Rules}
+use Rattle.register.specs.Blocks.{Closed, EvenSum, KindIs, ClassIs, Rules}
 
 fit-or-not : (b : Mono4) (t : Bool) → Even t b → IsMatchgate b ⊎ SwappedMatchgate b
 fit-or-not b t e = by (b .swap) t e
@@ -62,16 +62,16 @@ module _ (tol : Float) (ok : Tolerance tol) (u : Mat4) (b : Mono4) (U : Has4 u b
   fit-class relabel Q Still q F = subst (ClassIs relabel Q Still b) (sym (classify-fits tol ok u b U relabel F)) (by (diagonal b) refl)
     where
       by : (d : Bool) → diagonal b ≡ d → ClassIs relabel Q Still b (cond d (class2 Diag false u true) (class2 (Match f0) false u false))
-      by true e = as-it-is Diag true q (phaseless refl F e)
-      by false e = as-it-is (Match f0) false q (matchgate refl F e)
+      by true e = as-it-is Diag true q (F, e)
+      by false e = as-it-is (Match f0) false q (F, e)
 
   -- one that does not, without relabelling
   unfit-class : EvenSum b → SwappedMatchgate b → ClassIs false EvenSum ⊥ b (classify2Of false tol u)
   unfit-class q F = subst (ClassIs false EvenSum ⊥ b) (sym (classify-unfit tol ok u b U F)) (by (diagonal b) refl)
     where
       by : (d : Bool) → diagonal b ≡ d → ClassIs false EvenSum ⊥ b (cond d (class2 Interaction false u true) (class2 (NonGaussian f1) false u false))
-      by true e = as-it-is Interaction true q (interacting refl refl F e)
-      by false e = as-it-is (NonGaussian f1) false q (neither refl refl F e)
+      by true e = as-it-is Interaction true q (refl, F, e)
+      by false e = as-it-is (NonGaussian f1) false q (refl, F, e)
 
   -- and with it, where v fits
   swapped-class : EvenSum b → SwappedMatchgate b → ClassIs true EvenSum ⊥ b (classify2Of true tol u)
@@ -79,8 +79,8 @@ module _ (tol : Float) (ok : Tolerance tol) (u : Mat4) (b : Mono4) (U : Has4 u b
     where
       by : (d : Bool) → diagonal (swapped b) ≡ d
           → ClassIs true EvenSum ⊥ b (cond d (class2 Diag true (swap4Of u) true) (class2 (Match f0) true (swap4Of u) (diagonal b)))
-      by true e = exchanged Diag true q (phaseless refl (swapped-fits b F) e)
-      by false e = exchanged (Match f0) (diagonal b) q (matchgate refl (swapped-fits b F) e)
+      by true e = exchanged Diag true q (swapped-fits b F, e)
+      by false e = exchanged (Match f0) (diagonal b) q (swapped-fits b F, e)
 
   pub even-class : (relabel : Bool) → EvenSum b → ClassIs relabel EvenSum ⊥ b (classify2Of relabel tol u)
   even-class relabel q = by (fit-or-not b (q .0) (q .1)) relabel

@@ -2,7 +2,6 @@
 -- tape, flag and tolerance, and whatever cuts are chosen. Each item is what its kind says; without Swap and on neighbouring pairs all are Gaussian.
 -- Assumes nothing.
 use mathlib.Core.Path.{_≡_, refl, sym, ap, _∙_, subst}
-use mathlib.Core.Logic.{_⊎_, inl, inr}
 use mathlib.Core.Bool.{Bool, false}
 use mathlib.Core.List.{List, [], _∷_, reverse, reverseAux, List·Memᴰ}
 use Prim.Native.Nat.{ℕ, zero, _<_}
@@ -16,7 +15,6 @@ use Rattle.laws.proofs.Views.{length-listOf, getD-listOf}
 use Rattle.laws.proofs.Lists.{all-map, all-onto}
 use Rattle.tape.specs.Good.{GoodGate}
 use Rattle.tape.specs.declared.gates.Gate.{Gate}
-use Rattle.work.specs.Columns.{matchItem, diagonalItem}
 use Rattle.monomial.specs.Monomial.{Mono4, IsMatchgate}
 use Rattle.monomial.specs.Tolerance.{Tolerance}
 use Rattle.fuse.specs.Events.{Event, one, two}
@@ -24,13 +22,13 @@ use Rattle.fuse.specs.Relabel.{slotOf, labelled, unlabelled}
 use Rattle.fuse.specs.Fuse.{fused}
 use Rattle.fuse.specs.Compress.{compressed}
 use Rattle.resolve.specs.Items as Items
-use Rattle.resolve.specs.Items.{Item}
+use Rattle.resolve.specs.Items.{Item, ItemKind}
 use Rattle.resolve.specs.Cuts.{ones, ahead}
 use Rattle.resolve.specs.Resolve.{Rest, none, opened, startOf}
 use Rattle.resolve.specs.Whole.{resolvedOf, Fused, fuseOf}
 use Rattle.register.specs.Register.{RegisterGate, Beside, PlainGate}
 use Rattle.register.specs.Bits.{turnedOf, eventsRun, itemsRun, zeros}
-use Rattle.register.specs.Blocks.{Turn, EvenSum, Pair, Places, GateIs, Rules, ItemIs, KindIs, matchgate, phaseless, interacting, neither}
+use Rattle.register.specs.Blocks.{Turn, EvenSum, Pair, Places, GateIs, Rules, ItemIs, KindIs, GaussianKind}
 use Rattle.register.specs.Follows.{Follows, anyPair, GaussianItem, Plain}
 use Rattle.register.proofs.Readings.{turn-id, turned-id}
 use Rattle.register.proofs.Changes.{passes-keep}
@@ -44,11 +42,11 @@ use Rattle.register.proofs.Remainders.{all-rests, rests-are}
 
 -- ---- items whose blocks fit
 
-fits-kind : (relabel : Bool) (b : Mono4) (kind : ℕ) → IsMatchgate b → KindIs relabel b kind → (kind ≡ matchItem) ⊎ (kind ≡ diagonalItem)
-fits-kind relabel b kind F (matchgate e G d) = inl e
-fits-kind relabel b kind F (phaseless e G d) = inr e
-fits-kind relabel b kind F (interacting e r U d) = absurd (not-both b F U)
-fits-kind relabel b kind F (neither e r U d) = absurd (not-both b F U)
+fits-kind : (relabel : Bool) (b : Mono4) (kind : ItemKind) → IsMatchgate b → KindIs relabel b kind → GaussianKind kind
+fits-kind relabel b Items.matchgate F h = tt
+fits-kind relabel b Items.phaseless F h = tt
+fits-kind relabel b Items.interacting F h = not-both b F (h .1)
+fits-kind relabel b Items.neither F h = not-both b F (h .1)
 
 gaussian-item : (relabel : Bool) (n : ℕ) (x : Item) → ItemIs relabel n IsMatchgate Beside (Unit {0}) x → GaussianItem n x
 gaussian-item relabel n (Items.one w m) h = h

@@ -10,7 +10,6 @@ use lib.ListN.{length, getD}
 use lib.Ieee.{Float}
 use Rattle.gate.specs.declared.matrix.Mat2.{Mat2}
 use Rattle.gate.specs.declared.matrix.Mat4.{Mat4}
-use Rattle.work.specs.Columns.{matchItem, diagonalItem, interactionItem, neitherItem}
 use Rattle.tape.specs.declared.gates.Gate.{Gate}
 use Rattle.tape.specs.declared.gates.Gate.the-variants.{One, Two, Three}
 use Rattle.monomial.specs.Monomial.{Mono2, Mono4, Has2, Has4, diagonal, bitA, bitB, IsMatchgate, SwappedMatchgate}
@@ -18,7 +17,7 @@ use Rattle.monomial.specs.Algebra.{times4, kron4, renamed, Even}
 use Rattle.classify.specs.Classify.{classify2Of}
 use Rattle.classify.specs.declared.classify.Class2.{Class2}
 use Rattle.fuse.specs.Relabel.{swapCode}
-use Rattle.resolve.specs.Items.{Item, one, two, opaque, kindOf}
+use Rattle.resolve.specs.Items.{Item, one, two, opaque, ItemKind, matchgate, phaseless, interacting, neither, kindOf}
 use Rattle.register.specs.Register.{turns, exchanges}
 
 -- ---- matrices
@@ -66,11 +65,18 @@ pub record Places (n : ℕ) (Still : Type 0) (l : List ℕ) : Type 0 where
 -- ---- items
 
 -- what the kind of an item says of its block: an interaction and what is neither come only without relabelling
-pub data KindIs (relabel : Bool) (b : Mono4) (kind : ℕ) : Type 0 where
-  matchgate : kind ≡ matchItem → IsMatchgate b → diagonal b ≡ false → KindIs relabel b kind
-  phaseless : kind ≡ diagonalItem → IsMatchgate b → diagonal b ≡ true → KindIs relabel b kind
-  interacting : kind ≡ interactionItem → relabel ≡ false → SwappedMatchgate b → diagonal b ≡ true → KindIs relabel b kind
-  neither : kind ≡ neitherItem → relabel ≡ false → SwappedMatchgate b → diagonal b ≡ false → KindIs relabel b kind
+abbrev pub KindIs : Bool → Mono4 → ItemKind → Type 0
+KindIs relabel b matchgate = IsMatchgate b × (diagonal b ≡ false)
+KindIs relabel b phaseless = IsMatchgate b × (diagonal b ≡ true)
+KindIs relabel b interacting = (relabel ≡ false) × SwappedMatchgate b × (diagonal b ≡ true)
+KindIs relabel b neither = (relabel ≡ false) × SwappedMatchgate b × (diagonal b ≡ false)
+
+-- a matchgate, or diagonal with no phase
+abbrev pub GaussianKind : ItemKind → Type 0
+GaussianKind matchgate = Unit {0}
+GaussianKind phaseless = Unit {0}
+GaussianKind interacting = ⊥
+GaussianKind neither = ⊥
 
 -- what the class c of a matrix with the block b says: v has a block of the class Q, whose bits are those of b, exchanged where `swap` is set;
 -- nothing is renamed where `Still` holds

@@ -8,14 +8,13 @@ use Prim.Native.Nat.{ℕ, _<_}
 use lib.ListN.{getD}
 use Rattle.laws.specs.Lists.{All}
 use Rattle.tape.specs.declared.gates.Gate.{Gate}
-use Rattle.work.specs.Columns.{matchItem, diagonalItem}
 use Rattle.monomial.specs.Monomial.{Mono4, IsMatchgate}
 use Rattle.fuse.specs.Relabel.{Labelled, slotOf}
 use Rattle.resolve.specs.Items.{Item, one, two, opaque}
 use Rattle.resolve.specs.Whole.{Fused}
 use Rattle.register.specs.Register.{Beside, registerBits}
 use Rattle.register.specs.Bits.{itemsRun, zeros}
-use Rattle.register.specs.Blocks.{Turn, Block, Places, ItemIs}
+use Rattle.register.specs.Blocks.{Turn, Block, Places, GaussianKind, ItemIs}
 
 -- ---- every register tape
 
@@ -38,7 +37,7 @@ anyPair a b = Unit {0}
 -- a matchgate on neighbours, or diagonal with no phase, or on one wire
 abbrev pub GaussianItem : ℕ → Item → Type 0
 GaussianItem n (one w m) = (w < n) × Turn m
-GaussianItem n (two kind a b residual v) = (a < n) × (b < n) × Beside a b × Block IsMatchgate v × ((kind ≡ matchItem) ⊎ (kind ≡ diagonalItem))
+GaussianItem n (two kind a b residual v) = (a < n) × (b < n) × Beside a b × Block IsMatchgate v × GaussianKind kind
 GaussianItem n opaque = ⊥
 
 pub record Plain (n : ℕ) (s : Labelled) (f : Fused) : Type 0 where

@@ -123,7 +123,7 @@ offers-many la lb = all-many (cuts la) (cuts lb)
 pub pairs-few : (la lb : ℕ) → length (cuts la) * length (cuts lb) ≤ 324
 pairs-few la lb = mul-le-mul (cuts-few la) (cuts-few lb)
 
--- "so no two-qubit block tries more than 324"
+-- so no block has more than 324 candidates
 pub candidates-few : (a b : ℕ) (es : List Event) → candidates a b es ≤ maxCandidates
 unfolding candidates
 candidates-few a b es =

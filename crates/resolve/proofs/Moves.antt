@@ -23,7 +23,7 @@ use Rattle.resolve.specs.declared.settle.Tally.{Tally}
 use Rattle.resolve.specs.Items as Items
 use Rattle.resolve.specs.Items.{kindOf}
 use Rattle.resolve.specs.Resolve.{Resolved, opened, lengthened, promised, emptied, renamed, added, passed, itemOf, settled, closed}
-use Rattle.resolve.specs.Slots.{restAt, splitAt, itemAt, resolvedAt, emptiedMarks, tradedMarks, itemMarks, itemFloats, Moved}
+use Rattle.resolve.specs.Slots.{restAt, splitAt, kindMark, itemAt, resolvedAt, emptiedMarks, tradedMarks, itemMarks, itemFloats, Moved}
 use Rattle.resolve.proofs.Records.{marks-same, marks-put, floats-same, floats-put2}
 use Rattle.resolve.proofs.States.{slot-event, slot-within, emptied-marks, emptied-state, lengthened-state, promised-state, traded-size, traded-lab, traded-event, traded-within, renamed-state, own-added, own-none, own-event, own-within, item-marks, opaque-item, item-floats, block-item}
 
@@ -149,7 +149,7 @@ module _ (xs : List Float) (us : List ℕ) (g n i : ℕ) (room : Space xs us g n
     ys = itemFloats xs i (x .class)
 
     abbrev ws : List ℕ
-    ws = itemMarks vs i (kindOf (x .class .kind)) wa wb
+    ws = itemMarks vs i (kindMark (kindOf (x .class .kind))) wa wb
 
     abbrev r : Resolved
     r = resolvedAt xs us g n i t
@@ -162,22 +162,23 @@ module _ (xs : List Float) (us : List ℕ) (g n i : ℕ) (room : Space xs us g n
     with-item : (swaps : ℕ) → t′ .swaps ≡ t .swaps + swaps
         → resolvedAt ys ws g n (i + 1) t′ ≡ added (itemOf a b x r) swaps tried angled (emptied b (x .kb) (emptied a (x .ka) r))
     with-item swaps es =
-        own-added g n i xs ys vs ws (item-floats xs i (x .class)) (item-marks vs i (kindOf (x .class .kind)) wa wb) h (itemOf a b x r) swaps tried angled t t′ the-item es et en
+        own-added g n i xs ys vs ws (item-floats xs i (x .class)) (item-marks vs i (kindMark (kindOf (x .class .kind))) wa wb) h (itemOf a b x r) swaps tried
+        angled t t′ the-item es et en
         ∙ ap (added (itemOf a b x r) swaps tried angled) (e .state t)
 
     events : (j : ℕ) → i < j → j < g → eventAt ys ws j ≡ eventAt xs us j
-    events j p b = own-event g n i xs ys vs ws (item-floats xs i (x .class)) (item-marks vs i (kindOf (x .class .kind)) wa wb) h j p ∙ e .events j b
+    events j p b = own-event g n i xs ys vs ws (item-floats xs i (x .class)) (item-marks vs i (kindMark (kindOf (x .class .kind))) wa wb) h j p ∙ e .events j b
 
     labs : (q : ℕ) → markAt ws q labColumn ≡ markAt us q labColumn
-    labs q = item-marks vs i (kindOf (x .class .kind)) wa wb .lab q ∙ e .lab q
+    labs q = item-marks vs i (kindMark (kindOf (x .class .kind))) wa wb .lab q ∙ e .lab q
 
     slots : Within ws (i + 1) g n
-    slots = own-within g n i xs ys vs ws (item-floats xs i (x .class)) (item-marks vs i (kindOf (x .class .kind)) wa wb) h (e .within)
+    slots = own-within g n i xs ys vs ws (item-floats xs i (x .class)) (item-marks vs i (kindMark (kindOf (x .class .kind))) wa wb) h (e .within)
 
     pub settled-plain : x .class .swap ≡ false → t′ .swaps ≡ t .swaps → Moved (settled a b tried x angled) xs ys us ws g n i t t′
     settled-plain p es = record {
       size = item-floats xs i (x .class) .size;
-      marks = item-marks vs i (kindOf (x .class .kind)) wa wb .size ∙ e .size;
+      marks = item-marks vs i (kindMark (kindOf (x .class .kind))) wa wb .size ∙ e .size;
       state = with-item 0 (es ∙ sym (add-zero (t .swaps))) ∙ sym (rw p);
       later = events;
       lab = labs;
@@ -186,7 +187,7 @@ module _ (xs : List Float) (us : List ℕ) (g n i : ℕ) (room : Space xs us g n
 
     pub settled-swapped : x .class .swap ≡ true → t′ .swaps ≡ t .swaps + 1 → Moved (settled a b tried x angled) xs ys us (tradedMarks ws a b) g n i t t′
     settled-swapped p es =
-        let size = item-marks vs i (kindOf (x .class .kind)) wa wb .size ∙ e .size in
+        let size = item-marks vs i (kindMark (kindOf (x .class .kind))) wa wb .size ∙ e .size in
         record {
           size = item-floats xs i (x .class) .size;
           marks = traded-size ws a b ∙ size;

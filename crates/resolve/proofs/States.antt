@@ -27,9 +27,10 @@ use Rattle.classify.specs.declared.classify.Kind2.{Kind2}
 use Rattle.classify.specs.declared.classify.Kind2.the-variants.{Diag, Interaction, Match, NonGaussian}
 use Rattle.resolve.specs.declared.settle.Tally.{Tally}
 use Rattle.resolve.specs.Items as Items
-use Rattle.resolve.specs.Items.{Item, kindOf, newestFirst}
+use Rattle.resolve.specs.Items.{Item, ItemKind, matchgate, phaseless, interacting, neither, kindOf, newestFirst}
 use Rattle.resolve.specs.Resolve.{Rest, none, rest, opened, longer, lengthened, promised, emptied, renamed, added}
-use Rattle.resolve.specs.Slots.{restAt, splitAt, residualAt, item, itemAt, resolvedAt, emptiedMarks, tradedMarks, itemMarks, itemFloats, RowOnly}
+use Rattle.resolve.specs.Slots.{restAt, splitAt, kindMark, kindAt, residualAt, item, itemAt, resolvedAt}
+use Rattle.resolve.specs.Slots.{emptiedMarks, tradedMarks, itemMarks, itemFloats, RowOnly}
 use Rattle.resolve.proofs.Records.{newest-same, newest-more, MarksOf, FloatsOf, marks-same, marks-put, floats-same, floats-put2, floats-put4, floats-set, item-alike, rest-alike, other-event, other-item, other-rest, other-split, other-within}
 
 -- ---- a remainder that is written is read back
@@ -275,6 +276,14 @@ module _ (us : List ℕ) (i k a b : ℕ) where
     unfolding itemMarks
     item-b = put-here (putMark (putMark us i 0 k) i 1 a) i 2 b (omega (arith, put-size (putMark us i 0 k) i 1 a, put-size us i 0 k))
 
+-- the mark of a kind stands for it
+mark-kind : (k : ItemKind) → kindAt (kindMark k) ≡ k
+unfolding kindAt
+mark-kind matchgate = refl
+mark-kind phaseless = refl
+mark-kind interacting = refl
+mark-kind neither = refl
+
 pub opaque-item : (xs : List Float) (us : List ℕ) (i a b : ℕ) → 32 * i + 32 ≤ length us → itemAt xs (itemMarks us i opaqueItem a b) i ≡ Items.opaque ∷ []
 unfolding itemAt
 opaque-item xs us i a b room = rw (item-kind us i 9 a b room)
@@ -297,13 +306,15 @@ module _ (xs : List Float) (i : ℕ) (c : Class2) where
         ∙ mat4-back xs (64 * i) (c .v) (omega arith)
 
     pub block-item : (us : List ℕ) (a b : ℕ) → 32 * i + 32 ≤ length us
-        → itemAt (itemFloats xs i c) (itemMarks us i (kindOf (c .kind)) a b) i ≡ Items.two (kindOf (c .kind)) a b (residualOf (c .kind)) (c .v) ∷ []
+        → itemAt (itemFloats xs i c) (itemMarks us i (kindMark (kindOf (c .kind))) a b) i
+        ≡ Items.two (kindOf (c .kind)) a b (residualOf (c .kind)) (c .v) ∷ []
     unfolding itemAt
     block-item us a b marks =
-        rw (item-kind us i (kindOf (c .kind)) a b marks, item-a us i (kindOf (c .kind)) a b marks, item-b us i (kindOf (c .kind)) a b marks, item-residual, item-matrix)
+        let k = kindMark (kindOf (c .kind)) in
+        rw (item-kind us i k a b marks, item-a us i k a b marks, item-b us i k a b marks, item-residual, item-matrix, mark-kind (kindOf (c .kind)))
         (by (c .kind) (matrix2Of (itemFloats xs i c) i) (Items.two (kindOf (c .kind)) a b (residualOf (c .kind)) (c .v)))
       where
-        by : (k : Kind2) (m : Mat2) (x : Item) → item (kindOf k) a b m x ≡ x ∷ []
+        by : (k : Kind2) (m : Mat2) (x : Item) → item (kindMark (kindOf k)) a b m x ≡ x ∷ []
         by Diag m x = refl
         by Interaction m x = refl
         by (Match r) m x = refl

@@ -139,7 +139,7 @@ closed a b c r = added Items.opaque 0 0 false (emptied c 0 (emptied b 0 (emptied
 unfoldable pub candidates : ℕ → ℕ → List Event → ℕ
 candidates a b es = length (offers (length (ahead a es)) (length (ahead b es)))
 
--- "the number of candidate cuts classified": of all blocks
+-- how many candidates are classified: those of each block
 unfoldable pub classified : List Event → ℕ
 classified [] = 0
 classified (gone ∷ es) = classified es

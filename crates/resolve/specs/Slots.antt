@@ -13,7 +13,8 @@ use Rattle.laws.specs.Views.{listOf, upFrom}
 use Rattle.gate.specs.Lent.{mat2At}
 use Rattle.gate.specs.declared.matrix.Mat2.{Mat2}
 use Rattle.work.specs.Marks.{markAt, putMark}
-use Rattle.work.specs.Columns.{kindColumn, aColumn, bColumn, cColumn, labColumn, contentColumn, goneKind, oneItem, matchItem, neitherItem, opaqueItem}
+use Rattle.work.specs.Columns.{kindColumn, aColumn, bColumn, cColumn, labColumn, contentColumn}
+use Rattle.work.specs.Columns.{goneKind, oneItem, matchItem, diagonalItem, interactionItem, neitherItem, opaqueItem}
 use Rattle.fuse.specs.Events.{Event}
 use Rattle.fuse.specs.Layout.{Within, matrix2Of, matrix4Of, putMatrix4Of, eventAt, oneAt, blockAt}
 use Rattle.classify.specs.Classify.{residualOf}
@@ -21,7 +22,7 @@ use Rattle.classify.specs.declared.classify.Class2.{Class2}
 use Rattle.resolve.specs.declared.choose.Search.{Search}
 use Rattle.resolve.specs.declared.settle.Tally.{Tally}
 use Rattle.resolve.specs.Items as Items
-use Rattle.resolve.specs.Items.{Item, newestFirst}
+use Rattle.resolve.specs.Items.{Item, ItemKind, matchgate, phaseless, interacting, neither, newestFirst}
 use Rattle.resolve.specs.Cuts.{ahead, prefixOf}
 use Rattle.resolve.specs.Resolve.{Rest, none, rest, Resolved, passed, settled, closed, resolveStep, resolved, withRests, startOf}
 
@@ -35,6 +36,19 @@ restAt xs us g s = cond (eqb (markAt us (g + s) kindColumn) oneItem) (rest (matr
 abbrev pub splitAt : List ℕ → ℕ → ℕ → ℕ
 splitAt us g s = markAt us (g + s) cColumn
 
+-- the mark that a two-qubit item's kind has in its record
+abbrev pub kindMark : ItemKind → ℕ
+kindMark matchgate = matchItem
+kindMark phaseless = diagonalItem
+kindMark interacting = interactionItem
+kindMark neither = neitherItem
+
+-- the kind with the mark k
+unfoldable pub kindAt : ℕ → ItemKind
+kindAt k =
+    cond (eqb k (kindMark matchgate)) matchgate
+    (cond (eqb k (kindMark phaseless)) phaseless (cond (eqb k (kindMark interacting)) interacting neither))
+
 -- the residual of a two-qubit item stands after its matrix
 abbrev pub residualAt : List Float → ℕ → Float
 residualAt xs i = getD xs (64 * i + 32) nan
@@ -47,7 +61,7 @@ item k a b m x =
 unfoldable pub itemAt : List Float → List ℕ → ℕ → List Item
 itemAt xs us i =
     item (markAt us i kindColumn) (markAt us i aColumn) (markAt us i bColumn) (matrix2Of xs i)
-    (Items.two (markAt us i kindColumn) (markAt us i aColumn) (markAt us i bColumn) (residualAt xs i) (matrix4Of xs i))
+    (Items.two (kindAt (markAt us i kindColumn)) (markAt us i aColumn) (markAt us i bColumn) (residualAt xs i) (matrix4Of xs i))
 
 -- ---- the state
 

@@ -7,7 +7,7 @@ ghost use Rattle.work.specs.Columns.{kindColumn, oneKind};
 ghost use Rattle.resolve.specs.Items.{kindOf};
 ghost use Rattle.resolve.specs.Resolve.{opened};
 ghost use Rattle.fuse.specs.Layout.{Space, Within};
-ghost use Rattle.resolve.specs.Slots.{OnePassed, ThreeClosed, TwoSettled, restAt, emptiedMarks, tradedMarks, itemMarks, itemFloats};
+ghost use Rattle.resolve.specs.Slots.{OnePassed, ThreeClosed, TwoSettled, restAt, kindMark, emptiedMarks, tradedMarks, itemMarks, itemFloats};
 use crate::choose::Search;
 use classify::Class2;
 use classify::Kind2;
@@ -73,7 +73,7 @@ fn rename(u: &mut [u32], a: usize, b: usize)
 }
 
 fn item_kind(kind: Kind2) -> u32
-    ensures { λ r. ⌜ r ≡ kindOf kind ⌝ }
+    ensures { λ r. ⌜ r ≡ kindMark (kindOf kind) ⌝ }
 {
     match kind {
         Kind2::Diag => DIAGONAL_ITEM,
