@@ -1,7 +1,6 @@
 -- What is shown of a register tape's items: they follow the register; and without Swap and with neighbouring pairs nothing is renamed, and every item
 -- is Gaussian. Assumes nothing. Only inner functions rest on this.
 use mathlib.Core.Path.{_≡_}
-use mathlib.Core.Logic.{_⊎_}
 use mathlib.Core.Bool.{Bool}
 use mathlib.Core.List.{List}
 use Prim.Native.Nat.{ℕ, _<_}

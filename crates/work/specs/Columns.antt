@@ -1,5 +1,5 @@
 -- What each column of the marks holds, and the kinds of a record. These are the names that definitions use; code has the same in capitals.
--- Assumes nothing. A public promise rests on this.
+-- Assumes nothing. Only inner functions rest on this.
 use Prim.Native.Nat.{ℕ}
 
 -- ---- columns
