@@ -23,18 +23,18 @@ fn is_control(byte: u8) -> bool {
     matches!(byte, 0..=8 | 14..=31 | 127)
 }
 
-/// The name of an encoding with two or four bytes a character: by its mark, or by zeros in every other byte.
+/// The name of an encoding with two or four bytes a character: by its mark, or by a zero beside every byte of its beginning.
 fn wide(bytes: &[u8]) -> Option<&'static str> {
-    const SEEN: usize = 64;
     match bytes {
         [0xFF, 0xFE, 0, 0, ..] | [0, 0, 0xFE, 0xFF, ..] => return Some("UTF-32"),
         [0xFF, 0xFE, ..] | [0xFE, 0xFF, ..] => return Some("UTF-16"),
         _ => {}
     }
-    let pairs = || bytes.chunks_exact(2).take(SEEN);
-    let low_first = pairs().all(|p| p[0] != 0 && p[1] == 0);
-    let high_first = pairs().all(|p| p[0] == 0 && p[1] != 0);
-    (pairs().len() > 0 && (low_first || high_first)).then_some("UTF-16")
+    let start = bytes.get(..8)?;
+    let plain = |b: u8| b.is_ascii() && !is_control(b);
+    let low_first = start.chunks(2).all(|p| plain(p[0]) && p[1] == 0);
+    let high_first = start.chunks(2).all(|p| p[0] == 0 && plain(p[1]));
+    (low_first || high_first).then_some("UTF-16")
 }
 
 /// What is no UTF-8 and has no control character is text with a byte for each character.
@@ -107,7 +107,8 @@ mod tests {
 
     #[test]
     fn bytes_are_no_text() {
-        for bytes in [&b"qubits 2\n\0\n"[..], b"\x7FELF\x02\x01", b"\0", b"\xFF\xFF\x01"] {
+        let zeros = [0; 64];
+        for bytes in [&b"qubits 2\n\0\n"[..], b"\x7FELF\x02\x01", b"\0", b"\xFF\0\x01", &zeros] {
             let want = "neither a gate list (text) nor a tape (bytes that begin 51 48)";
             assert_eq!(said(bytes), want);
         }
