@@ -1,0 +1,1 @@
+// Worked rows of the definitions, computed whole. They stand in proofs/; there is no code.
