@@ -141,7 +141,7 @@ fn a_file_name_that_is_no_text() {
     let run1 = tool(&[list.as_os_str(), OsStr::new("--tape"), tape.as_os_str()]).output();
     let run1 = run1.expect("the tool runs");
     assert!(stdout(&run1).contains("\u{FFFD}.txt: 1 qubit, 1 gate\n"), "{}", stderr(&run1));
-    assert_eq!(tool(&[tape]).status().expect("the tool runs").code(), Some(0));
+    assert_eq!(tool(&[tape]).output().expect("the tool runs").status.code(), Some(0));
 }
 
 #[test]
