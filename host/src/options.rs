@@ -48,15 +48,16 @@ Write more:
 
 Numbers: if every gate is one of I X Y Z S Sdg Swap ISwap ISwapdg, it is proved
 that every answer is exactly that of a bit register, and the tool says `exact`.
-All other numbers are rounded; of these `+1`, `-1`, `1` and `0` without digits
-after the point are floats with that value. A given matrix that is not unitary
-within 1e-9 is warned of, and run.
+All other numbers are rounded; of these a 1, -1 or 0 without digits after the
+point is a float with that value. A given matrix that is not unitary within
+1e-9 is warned of, and run.
 
 Exit status: 0 answered; 1 the engine refused the circuit or a question about
 it; 2 the command line, the list or a file is at fault, or what was to be
 printed could not be (without a word if a pipe's reader has left).
 
-JSON: one object on standard output, whatever the exit status.
+JSON: one object on standard output, whatever the exit status; a number that is
+not finite is null.
   error      null, or with status 2 the message and its line (null if it has
              none); often the only member
   warnings   texts, each with its place
@@ -204,6 +205,9 @@ fn fits(o: &Options) -> Result<(), String> {
     Err(fault.into())
 }
 
+/// What to give for a seed or a number of shots.
+const WHOLE: &str = "give a whole number, below 2^64";
+
 /// Takes an option that has a value.
 fn take(options: &mut Options, option: &str, value: &OsStr) -> Result<(), String> {
     let shown = value.to_string_lossy();
@@ -215,9 +219,9 @@ fn take(options: &mut Options, option: &str, value: &OsStr) -> Result<(), String
         }
         "--svg" => options.svg = Some(value.into()),
         "--tape" => options.tape = Some(value.into()),
-        "--seed" => options.seed = Some(number(&shown).ok_or_else(|| fault("give a number"))?),
+        "--seed" => options.seed = Some(number(&shown).ok_or_else(|| fault(WHOLE))?),
         "--shots" => {
-            let shots = number(&shown).ok_or_else(|| fault("give a number"))?;
+            let shots = number(&shown).ok_or_else(|| fault(WHOLE))?;
             let most = format!("at most {MAX_SHOTS} at a time; another seed gives others");
             let few = usize::try_from(shots).ok().filter(|s| *s <= MAX_SHOTS);
             options.shots = Some(few.ok_or_else(|| fault(&most))?);
@@ -339,8 +343,8 @@ mod tests {
             ("a --json=yes", "--json takes no value"),
             ("a --shots", "--shots needs a value"),
             ("a --svg --json", "--svg needs a value"),
-            ("a --shots x", "--shots x: give a number"),
-            ("a --shots -1", "--shots -1: give a number"),
+            ("a --shots x", "--shots x: give a whole number, below 2^64"),
+            ("a --shots -1", "--shots -1: give a whole number, below 2^64"),
             ("a --shots 1 --shots 2", "--shots is given twice"),
             ("a --digits 0", "--digits 0: give a number from 1 to 17"),
             ("a --product 0,x", "--product 0,x: give qubits, as in 0,3,7"),

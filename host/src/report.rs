@@ -291,21 +291,22 @@ fn parities(r: &Report, answers: &Answers, digits: usize) -> String {
 /// What the numbers are worth.
 fn trust(source: &Source, r: &Report) -> String {
     let mut out = String::from("\n");
-    let texts = match caveat(source, r) {
-        Some(REGISTER) => vec![REGISTER],
-        caveat => [caveat, Some(ROUNDED)].into_iter().flatten().collect(),
-    };
+    let mut texts = caveats(source, r);
+    if !texts.contains(&REGISTER) {
+        texts.push(ROUNDED);
+    }
     item(&mut out, "trust", &texts.join(" "));
     out
 }
 
 /// What must be said of all numbers, if anything must.
-pub fn caveat(source: &Source, r: &Report) -> Option<&'static str> {
-    match r.interactions {
-        _ if source.is_register() => Some(REGISTER),
-        0 => None,
-        _ => Some(FREE_PART),
+pub fn caveats(source: &Source, r: &Report) -> Vec<&'static str> {
+    if source.is_register() {
+        return vec![REGISTER];
     }
+    let free_part = (r.interactions > 0).then_some(FREE_PART);
+    let not_unitary = (!source.not_unitary().is_empty()).then_some(NOT_UNITARY);
+    free_part.into_iter().chain(not_unitary).collect()
 }
 
 /// Said of register lists.
@@ -314,12 +315,16 @@ const REGISTER: &str =
     list it is proved that every answer is exactly that of a bit register fed the same gates.";
 /// Said of all others.
 const ROUNDED: &str = "rounded: the arithmetic is proved to be that of the definition, and no bound \
-    on its rounding is. +1, -1 and 0 without digits after the point are floats with that value; the \
+    on its rounding is. A 1, -1 or 0 without digits after the point is a float with that value; the \
     true value may lie beside it.";
 /// Said where interactions were left out.
 const FREE_PART: &str =
     "The answers are those of the free part, without the interactions, and not \
     those of the whole circuit.";
+/// Said where the tool warns of a matrix.
+const NOT_UNITARY: &str =
+    "A given matrix is not unitary: the numbers need be no expectations and no \
+    probabilities.";
 
 /// The answers to what was asked besides.
 fn replies(context: &Context, answers: &Answers) -> String {
@@ -484,6 +489,8 @@ mod tests {
         assert_eq!(warnings(&source), [want]);
         let tape = Source::read("f", source.tape, &[]).expect("a tape");
         assert!(warnings(&tape)[0].starts_with("gate 1 (byte 20): "));
+        let report = Fake::accepting(&[1.0]).compiled.report;
+        assert_eq!(caveats(&tape, &report), [NOT_UNITARY]);
     }
 
     #[test]

@@ -49,7 +49,7 @@ impl Source {
     /// Reads the contents of a file.
     pub fn read(name: &str, contents: Vec<u8>, settings: &[Setting]) -> Result<Source, Fault> {
         if contents.len() > MOST_BYTES {
-            return Err(Fault::whole(format!("the file has over {MOST_BYTES} bytes")));
+            return Err(too_big(&contents, settings));
         }
         if contents.starts_with(&HEADER_MARK) {
             return Source::from_tape(name, contents, settings);
@@ -119,13 +119,14 @@ impl Source {
         self.records.len() - self.gates()
     }
 
-    /// Whether every gate is one of the bit register's.
+    /// Whether every gate is one of the bit register's, of a list or a whole tape.
     pub fn is_register(&self) -> bool {
         let register = |r: &Record| match r {
             Record::Gate { code, .. } => gates::is_register(*code),
             Record::Label(_) => true,
         };
-        self.end() == self.tape.len() && self.records.iter().all(|p| register(&p.record))
+        let whole = self.header().is_some() && self.end() == self.tape.len();
+        whole && self.records.iter().all(|p| register(&p.record))
     }
 
     /// The record at an offset.
@@ -181,6 +182,20 @@ impl Source {
     }
 }
 
+/// What to say of a file that is too big: the first fault of its lines, such as a gate too many, if there is one.
+fn too_big(contents: &[u8], settings: &[Setting]) -> Fault {
+    let whole = Fault::whole(format!("the file has over {MOST_BYTES} bytes"));
+    if contents.starts_with(&HEADER_MARK) {
+        return whole;
+    }
+    let end = contents.iter().rposition(|b| *b == b'\n').unwrap_or(0);
+    let text = text::decode(contents[..end].to_vec());
+    match text.and_then(|text| list::read(&text, settings)) {
+        Err(fault) if fault.line > 0 => fault,
+        _ => whole,
+    }
+}
+
 #[cfg(test)]
 mod tests {
     use super::*;
@@ -221,6 +236,7 @@ mod tests {
         let t = source(&s.tape[..s.tape.len() - 1]);
         assert!(t.dump().expect_err("cut").ends_with("# byte 100: no whole record"));
         assert!(source(b"QH").dump().is_err());
+        assert!(!source(b"QH").is_register() && !t.is_register());
     }
 
     #[test]
@@ -238,6 +254,9 @@ mod tests {
     fn a_file_given_by_mistake() {
         let big = Source::read("f", vec![b'#'; MOST_BYTES + 1], &[]).expect_err("too big");
         assert_eq!(big.to_string(), "the file has over 4194304 bytes");
+        let list = format!("qubits 1\n{}", "x 0\n".repeat(MOST_BYTES / 4));
+        let long = Source::read("f", list.into(), &[]).expect_err("too big");
+        assert_eq!(long.to_string(), "line 1026: gate 1025 is one too many: at most 1024");
         let most = vec![b'#'; MOST_BYTES];
         assert!(Source::read("f", most, &[]).expect_err("no list").reason.starts_with("there is"));
     }

@@ -98,7 +98,8 @@ fn head(page: &mut Page, context: &Context, outcome: &Outcome) -> f64 {
     match (&outcome.answers, &outcome.compiled) {
         (Ok(_), Some(compiled)) => {
             lines.push(accepted(&compiled.report));
-            lines.extend(report::caveat(context.source, &compiled.report).map(String::from));
+            let caveats = report::caveats(context.source, &compiled.report);
+            lines.extend(caveats.into_iter().map(String::from));
         }
         (Err(refused), _) => {
             lines.push(format!("refused: number {}", refused.refusal.number));

@@ -62,7 +62,12 @@ fn complaint(name: &str, contents: impl AsRef<[u8]>) -> String {
     let object = stdout(&json);
     assert!(object.contains(&format!("\"message\": \"{quoted}\",\n")), "{object}");
     syntax::check(&object);
-    message.strip_prefix(&format!("{}: ", path.display())).expect(&said).to_string()
+    let said = message.strip_prefix(&format!("{}: ", path.display())).expect(&said);
+    let line = said
+        .strip_prefix("line ")
+        .map_or("null", |rest| rest.split([':', ',']).next().expect("a line"));
+    assert!(object.contains(&format!("    \"line\": {line}\n  }}")), "{object}");
+    said.to_string()
 }
 
 #[test]
@@ -102,6 +107,11 @@ fn an_endless_file_is_not_read() {
     let run = run(&["/dev/zero"]);
     assert_eq!(stderr(&run), "jozkeral: /dev/zero: the file has over 4194304 bytes\n");
     assert_eq!(run.status.code(), Some(2));
+    let piped = "yes 'x 0' | \"$0\" --set qubits=1 -";
+    let piped = Command::new("sh").args(["-c", piped, env!("CARGO_BIN_EXE_jozkeral")]).output();
+    let piped = piped.expect("a shell");
+    let want = "jozkeral: standard input: line 1025: gate 1025 is one too many: at most 1024\n";
+    assert_eq!((stderr(&piped).as_str(), piped.status.code()), (want, Some(2)));
 }
 
 #[test]
