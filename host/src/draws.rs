@@ -2,7 +2,7 @@
 
 use crate::fault::Fault;
 use crate::line::LONGEST_WORD;
-use std::io::Read;
+use std::io::BufRead;
 
 /// Splitmix64 (Steele, Lea and Flood, 2014): the state goes up by a constant, and what comes out is
 /// the state with its bits mixed. A draw is the upper 53 bits, divided by 2^53.
@@ -31,7 +31,7 @@ impl Iterator for Splitmix64 {
 
 /// Reads at most so many draws from a file: numbers between blanks or on lines, with `#` for comments. What follows is not
 /// read. Whether each is from 0 and below 1 is the engine's question.
-pub fn read(from: impl Read, most: usize) -> Result<Vec<f64>, Fault> {
+pub fn read(from: impl BufRead, most: usize) -> Result<Vec<f64>, Fault> {
     let (mut draws, mut line) = (vec![], 1);
     let (mut word, mut comment) = (vec![], false);
     for byte in from.bytes().chain([Ok(b'\n')]) {

@@ -294,14 +294,15 @@ mod tests {
     fn told(list: &str, fake: &Fake, queries: &[Query], draws: &[f64]) -> String {
         let source = Source::read("f", list.into(), &[]).expect("a list");
         let outcome = job::run(&source, queries, fake).expect("an outcome");
-        let shots = Some(draws.len() / 2);
-        let context = Context { source: &source, queries, shots, draws: "seed", digits: 9 };
+        let shots = draws.len() / 2;
+        let context =
+            Context { source: &source, queries, shots: Some(shots), draws: "seed", digits: 9 };
         let mut out = vec![];
         let all = match &outcome.answers {
             Err(_) => write(&mut out, &context, &outcome, &mut std::iter::empty()),
             Ok(answers) => {
                 let draws = Box::new(draws.iter().copied());
-                let mut portions = Shots::new(fake, &answers.state, shots.unwrap_or(0), draws);
+                let mut portions = Shots::new(fake, &answers.state, shots, draws);
                 write(&mut out, &context, &outcome, &mut portions)
             }
         };

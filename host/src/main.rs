@@ -13,7 +13,7 @@ use jozkeral::wording::shown;
 use jozkeral::{json, refusals, svg};
 use std::ffi::{OsStr, OsString};
 use std::fs::File;
-use std::io::{self, BufReader, IsTerminal, Read, Write};
+use std::io::{self, BufRead, BufReader, IsTerminal, Read, Write};
 use std::process::ExitCode;
 use std::time::Instant;
 
@@ -235,9 +235,9 @@ fn shown_name(file: &OsStr) -> String {
 }
 
 /// A file to read, or standard input.
-fn opened(file: &OsStr) -> Result<Box<dyn Read>, String> {
+fn opened(file: &OsStr) -> Result<Box<dyn BufRead>, String> {
     if file == "-" {
-        return Ok(Box::new(io::stdin()));
+        return Ok(Box::new(io::stdin().lock()));
     }
     let opened = File::open(file).map_err(|e| unreadable(file, e))?;
     Ok(Box::new(BufReader::new(opened)))

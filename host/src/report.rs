@@ -267,7 +267,7 @@ fn probability(x: f64, digits: usize) -> String {
     match x {
         0.0 => "0".into(),
         1.0 => "1".into(),
-        x if x < 1e-4 || x >= 1e4 => format!("{x:.digits$e}"),
+        x if !(1e-4..1e4).contains(&x) => format!("{x:.digits$e}"),
         _ => format!("{x:.digits$}"),
     }
 }
