@@ -345,6 +345,10 @@ mod tests {
         let mut fake = Fake::accepting(&[1.0, 1.0]);
         let want = "\"number_conserving\": true,\n    \"number_tested\": 2,";
         assert!(told(LIST, &fake, &[], &[]).contains(want));
+        let mut empty = Fake::accepting(&[]);
+        (empty.compiled.report.blocks, empty.compiled.report.two_qubit) = (0, 0);
+        let want = "\"number_conserving\": null,\n    \"number_tested\": 0,";
+        assert!(told("qubits 0\n", &empty, &[], &[]).contains(want));
         fake.compiled.report.bad = 1;
         let want = "\"number_conserving\": null,\n    \"number_tested\": null,";
         assert!(told(LIST, &fake, &[], &[]).contains(want));
