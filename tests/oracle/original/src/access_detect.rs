@@ -107,7 +107,6 @@ pub mod access {
     }
 
     /// The same with the two settings that it reads: these types are those of every tree.
-    #[allow(dead_code)]
     pub fn fused(c: &Circuit, tol: f64, relabel_swaps: bool) -> Fused {
         fuse(c, &DetectOptions { tol, relabel_swaps, reorder: false })
     }
