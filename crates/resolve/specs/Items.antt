@@ -1,4 +1,4 @@
--- The items (000, `Item`): fused, classified blocks in terms of wires. Of a two-qubit item's class its kind and its residual are kept; whether the phase
+-- The items (000, `Item`): fused, classified blocks in terms of wires. Of a two-qubit item's class the kind, the residual and v are kept; whether the phase
 -- of a diagonal block counts as none is part of the kind. Assumes nothing. A public promise rests on this.
 use mathlib.Core.Bool.{Bool, true, false}
 use mathlib.Core.List.{List, [], _++_}

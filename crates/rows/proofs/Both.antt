@@ -193,11 +193,11 @@ module _ (work : List Float) (marks : List ℕ) (ops state : List Float) (short 
   row : (t : List ℕ) (k l : ℕ) (h : Header) (c : Content) → parse t ≡ accepted h c → length (c .gates) ≤ 1 → h .n ≤ 3 → reportedOf h (c .gates) .blocks ≤ 1
       → No h (reportedOf h (c .gates)) (length state) k → First h (reportedOf h (c .gates)) k → No h (reportedOf h (c .gates)) (length state) l
       → Both t k l work marks ops state
-  row t k l h c e g n b no first second = record {
+  row t k l h c e g n b fails first second = record {
     header = h;
     content = c;
     parsed = e;
-    first = no;
+    first = fails;
     second = second;
     answer = first-answer t h c e work marks ops state (nine (length (c .gates)) (h .n) g n) (ten h (c .gates) b) first;
   }

@@ -10,7 +10,7 @@ use Rattle.laws.specs.Views.{upFrom, until, from}
 use Rattle.num.specs.Order.{absOf, maxOf, minOf}
 use Rattle.num.specs.Root.{sqrtOf}
 use Rattle.gate.specs.Complex.{f0, isZeroOf}
-use Rattle.gate.specs.Matrix.{dot2Of, mul2Of, timeProductFrom, timeProductOf, kronRowOf, kronOf, axpyOf, rowMulOf, mul4Of, conjColumnOf, dag4Of}
+use Rattle.gate.specs.Matrix.{dot2Of, mul2Of, timeStepOf, timeProductFrom, timeProductOf, kronRowOf, kronOf, axpyOf, rowMulOf, mul4Of, conjColumnOf, dag4Of}
 use Rattle.named.specs.Table.{gateX, gateSx, gateSxdg, gateCz}
 use Rattle.tape.specs.declared.header.Header.{Header}
 use Rattle.tape.specs.declared.gates.Gate.{Gate}
@@ -56,36 +56,66 @@ use Rattle.rows.proofs.SignRow.{r, plain}
 abbrev header : ℕ → Header
 header flags = record { n = 2; flags = flags; tolerance = f0; limit = 0 }
 
-pub data Chooses : ℕ → List Gate → Fused → Type 0 where
-  -- Sx 0, R(0, 1), Sxdg 0: alone the block is no matchgate, with the gate after it it is R. The second of two candidates is the better, and nothing is left
-  better : Chooses 0 (One 0x07 0 gateSx ∷ r 0 1 (One 0x08 0 gateSxdg ∷ []))
-      (record { items = Items.two matchgate 0 1 f0 plain ∷ []; content = 0 ∷ 1 ∷ []; swaps = 0; tried = 2; angled = false })
-  -- the same, then X 0: with the X the block is a matchgate too, but the score with fewer gates taken is the better. The X is left, an item of its own
-  remainder : Chooses 0 (One 0x07 0 gateSx ∷ r 0 1 (One 0x08 0 gateSxdg ∷ One 0x02 0 gateX ∷ []))
-      (record {
-        items = Items.one 0 gateX ∷ Items.two matchgate 0 1 f0 plain ∷ [];
-        content = 0 ∷ 1 ∷ [];
-        swaps = 0;
-        tried = 3;
-        angled = false;
-      })
-  -- Cz(0, 1) with relabelling is SWAP · v, v a matchgate: the wires change places, so that the X 0 that is left is on wire 1
-  renamed : Chooses 1 (Two 0x11 0 1 gateCz ∷ One 0x02 0 gateX ∷ [])
-      (record {
-        items = Items.one 1 gateX ∷ Items.two matchgate 0 1 f0 (swap4Of gateCz) ∷ [];
-        content = 1 ∷ 0 ∷ [];
-        swaps = 1;
-        tried = 2;
-        angled = true;
-      })
+-- ---- the lists, and what fusing makes of them
 
-pub chosen-cuts : {flags : ℕ} {gs : List Gate} {x : Fused} → Chooses flags gs x → itemsOf (header flags) gs ≡ x
+-- Sx 0, R(0, 1), Sxdg 0: alone the block is no matchgate, with the gate after it it is R. The second of two candidates is the better, and nothing is left
+abbrev pub betterGates : List Gate
+betterGates = One 0x07 0 gateSx ∷ r 0 1 (One 0x08 0 gateSxdg ∷ [])
+
+abbrev pub betterItems : Fused
+betterItems = record { items = Items.two matchgate 0 1 f0 plain ∷ []; content = 0 ∷ 1 ∷ []; swaps = 0; tried = 2; angled = false }
+
+-- the same, then X 0: with the X the block is a matchgate too, but the score with fewer gates taken is the better. The X is left, an item of its own
+abbrev pub splitGates : List Gate
+splitGates = One 0x07 0 gateSx ∷ r 0 1 (One 0x08 0 gateSxdg ∷ One 0x02 0 gateX ∷ [])
+
+abbrev pub splitItems : Fused
+splitItems = record {
+  items = Items.one 0 gateX ∷ Items.two matchgate 0 1 f0 plain ∷ [];
+  content = 0 ∷ 1 ∷ [];
+  swaps = 0;
+  tried = 3;
+  angled = false;
+}
+
+-- Cz(0, 1) with relabelling is SWAP · v, v a matchgate: the wires change places, so that the X 0 that is left is on wire 1
+abbrev pub renamedGates : List Gate
+renamedGates = Two 0x11 0 1 gateCz ∷ One 0x02 0 gateX ∷ []
+
+abbrev pub renamedItems : Fused
+renamedItems = record {
+  items = Items.one 1 gateX ∷ Items.two matchgate 0 1 f0 (swap4Of gateCz) ∷ [];
+  content = 1 ∷ 0 ∷ [];
+  swaps = 1;
+  tried = 2;
+  angled = true;
+}
+
+-- ---- each is computed whole
+
+pub better : itemsOf (header 0) betterGates ≡ betterItems
 unfolding largestRootOf majorana0 majorana1 majorana2 majorana3 image4Of traceRow4Of trace4Of coefficient4Of coefficients4Of lessRow4Of less4Of rest4Of
-    plusRow4Of square4Of distance4Of mapRow4Of mapDistance4Of majoranaMap2Of dot2Of mul2Of timeProductFrom timeProductOf kronRowOf kronOf axpyOf rowMulOf
+    plusRow4Of square4Of distance4Of mapRow4Of mapDistance4Of majoranaMap2Of dot2Of mul2Of timeStepOf timeProductFrom timeProductOf kronRowOf kronOf axpyOf rowMulOf
     mul4Of conjColumnOf dag4Of isZeroOf maxOf minOf absOf sqrtOf add sub mul div neg lt le eq ofBits isNan plusThreeOf offSquareOf offdiag4Of interactionOf
     phaseNoneOf diagonalOf withoutPhaseOf residual2Of swap4Of plainOf fallbackOf swappedOf classify2Of upFrom until from product labelled unlabelled labelsOf
     itemsOf fused diagonal2Of compressed ones ahead keep cuts prefixOf levelOf candidateOf betterOf offerOf offersOf allOffers tryEach chooseOf candidates
     chosen resolved withRests startOf resolvedOf fuseOf
-chosen-cuts better = refl
-chosen-cuts remainder = refl
-chosen-cuts renamed = refl
+better = refl
+
+pub split : itemsOf (header 0) splitGates ≡ splitItems
+unfolding largestRootOf majorana0 majorana1 majorana2 majorana3 image4Of traceRow4Of trace4Of coefficient4Of coefficients4Of lessRow4Of less4Of rest4Of
+    plusRow4Of square4Of distance4Of mapRow4Of mapDistance4Of majoranaMap2Of dot2Of mul2Of timeStepOf timeProductFrom timeProductOf kronRowOf kronOf axpyOf rowMulOf
+    mul4Of conjColumnOf dag4Of isZeroOf maxOf minOf absOf sqrtOf add sub mul div neg lt le eq ofBits isNan plusThreeOf offSquareOf offdiag4Of interactionOf
+    phaseNoneOf diagonalOf withoutPhaseOf residual2Of swap4Of plainOf fallbackOf swappedOf classify2Of upFrom until from product labelled unlabelled labelsOf
+    itemsOf fused diagonal2Of compressed ones ahead keep cuts prefixOf levelOf candidateOf betterOf offerOf offersOf allOffers tryEach chooseOf candidates
+    chosen resolved withRests startOf resolvedOf fuseOf
+split = refl
+
+pub renamed : itemsOf (header 1) renamedGates ≡ renamedItems
+unfolding largestRootOf majorana0 majorana1 majorana2 majorana3 image4Of traceRow4Of trace4Of coefficient4Of coefficients4Of lessRow4Of less4Of rest4Of
+    plusRow4Of square4Of distance4Of mapRow4Of mapDistance4Of majoranaMap2Of dot2Of mul2Of timeStepOf timeProductFrom timeProductOf kronRowOf kronOf axpyOf rowMulOf
+    mul4Of conjColumnOf dag4Of isZeroOf maxOf minOf absOf sqrtOf add sub mul div neg lt le eq ofBits isNan plusThreeOf offSquareOf offdiag4Of interactionOf
+    phaseNoneOf diagonalOf withoutPhaseOf residual2Of swap4Of plainOf fallbackOf swappedOf classify2Of upFrom until from product labelled unlabelled labelsOf
+    itemsOf fused diagonal2Of compressed ones ahead keep cuts prefixOf levelOf candidateOf betterOf offerOf offersOf allOffers tryEach chooseOf candidates
+    chosen resolved withRests startOf resolvedOf fuseOf
+renamed = refl
