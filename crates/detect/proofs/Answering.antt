@@ -13,7 +13,7 @@ use Rattle.tape.specs.Parse.{Content}
 use Rattle.tape.specs.declared.header.Header.{Header}
 use Rattle.tape.specs.declared.gates.Gate.{Gate}
 use Rattle.detect.specs.declared.report.Report.{Report}
-use Rattle.detect.specs.Operation.{Operation, allPlaces, written}
+use Rattle.detect.specs.Operation.{allPlaces, written}
 use Rattle.detect.specs.Emit.{operationsOf}
 use Rattle.detect.specs.Records.{itemsIn, modesIn}
 use Rattle.detect.specs.Report.{freeOf, reportOf}

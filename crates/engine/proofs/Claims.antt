@@ -17,7 +17,6 @@ use Rattle.order.proofs.Covers.{never}
 use Rattle.register.specs.Register.{registerBits}
 use Rattle.claim.specs.Queries.{answer, answers, Begins, RightAnswers}
 use Rattle.claim.proofs.Tables.{qubits-few}
-use Rattle.gaussian.specs.Run.{ran, ranState}
 use Rattle.gaussian.specs.Claim.{leftBy, AnswersRight, RegisterClaim}
 use Rattle.engine.specs.Answers.{noRoom}
 use Rattle.engine.specs.Reports.{laid, reportWords, wordsWritten, tablesWritten, roomOf, Reports}

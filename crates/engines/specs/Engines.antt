@@ -12,7 +12,7 @@ use Rattle.local.specs.State.{stored}
 use Rattle.state.specs.Bounds.{dimOf}
 use Rattle.state.specs.Answers.{accepted}
 use Rattle.evolve.specs.Evolve.{evolved}
-use Rattle.claim.specs.Queries.{Query, expectation, correlation, product, marginal, probability, sample, Given, Ask, number, answer}
+use Rattle.claim.specs.Queries.{expectation, correlation, product, marginal, probability, sample, Ask, number, answer}
 use Rattle.gaussian.specs.Run.{asked, ran}
 use Rattle.gaussian.specs.Claim.{Left, leftBy, RegisterClaim}
 

@@ -116,10 +116,10 @@ only g = record { gates = g ∷ []; places = headerLength ∷ []; labels = [] }
 abbrev pub xOn0 : Gate
 xOn0 = One 0x02 0 gateX
 
-abbrev czOn01 : Gate
+abbrev pub czOn01 : Gate
 czOn01 = Two 0x11 0 1 gateCz
 
-abbrev iswapOn02 : Gate
+abbrev pub iswapOn02 : Gate
 iswapOn02 = Two 0x13 0 2 gateISwap
 
 pub parses : (parse (tape 2 0 128 0 []) ≡ accepted (headed 2 0 128) nothing)
@@ -148,7 +148,7 @@ kept h r e d = rw (e, d)
 -- ---- rows by the counts of `detect`'s edges
 
 -- the report does not see the limit
-limit-unseen : (n flags k l : ℕ) (gs : List Gate) → reportedOf (headed n flags k) gs ≡ reportedOf (headed n flags l) gs
+pub limit-unseen : (n flags k l : ℕ) (gs : List Gate) → reportedOf (headed n flags k) gs ≡ reportedOf (headed n flags l) gs
 unfolding reportedOf tapeCounts itemsOf labelsOf orderOf
 limit-unseen n flags k l gs = refl
 

@@ -75,7 +75,7 @@ pub record Roomy (work : List Float) (marks : List ℕ) (ops state : List Float)
   pub places : statePlaces (dimOf 3) ≤ length state
 
 -- a block becomes three operations at most
-operations-few : (h : Header) (gs : List Gate) → reportedOf h gs .operations ≤ 3 * reportedOf h gs .blocks
+pub operations-few : (h : Header) (gs : List Gate) → reportedOf h gs .operations ≤ 3 * reportedOf h gs .blocks
 unfolding reportedOf reportOf tapeCounts
 operations-few h gs = by (freeOf (tapeCounts h gs))
   where

@@ -71,7 +71,8 @@ fn run_checked(
     state: &mut [f64],
 ) -> Compiled
     requires { ⌜ Gates (now tape) g (h .n) × (h .n ≤ maxQubits) × (g ≤ maxGates) ⌝ }
-    ensures answer { λ r. ⌜ r ≡ answerOf (workAsked (now (tape .entry)) h g (now (work .entry)) (now (marks .entry)) (now (ops .entry)) (now (state .entry))) ⌝ }
+    ensures answer { λ r. ⌜ r ≡ answerOf
+        (workAsked (now (tape .entry)) h g (now (work .entry)) (now (marks .entry)) (now (ops .entry)) (now (state .entry))) ⌝ }
     ensures work { λ _. ⌜ now (work .exit) ≡ workAfter workFloats f0
         (workAsked (now (tape .entry)) h g (now (work .entry)) (now (marks .entry)) (now (ops .entry)) (now (state .entry))) (now (work .entry)) ⌝ }
     ensures marks { λ _. ⌜ now (marks .exit) ≡ workAfter workMarks 0

@@ -1,7 +1,7 @@
 -- Two questions of 11 to 15 whose answer is no at once: the first gives the number. In every row the state slice is too short as well (15). One theorem
 -- over the header and the report says which number a run gives, whatever the later questions would; the rows are its instances. Assumes nothing.
 use mathlib.Core.Path.{_≡_, refl, ap, _∙_}
-use mathlib.Core.Bool.{Bool, true, false, cond}
+use mathlib.Core.Bool.{true, false}
 use mathlib.Core.List.{List, [], _∷_}
 use Prim.Native.Nat.{ℕ, _+_, _*_, _≤_, _<_}
 use native.Mathlib.Omega.{arith}
@@ -12,9 +12,7 @@ use Rattle.laws.specs.Bounds.{opPlaces}
 use Rattle.laws.specs.Tests.{allBelow}
 use Rattle.laws.specs.Views.{upFrom}
 use Rattle.num.specs.Bits.{le16, le32, le64}
-use Rattle.gate.specs.Complex.{f0}
-use Rattle.named.specs.Table.{gateCz, gateISwap, matrix2qOf}
-use Rattle.tape.specs.Bounds.{headerLength}
+use Rattle.named.specs.Table.{matrix2qOf}
 use Rattle.tape.specs.Header.{headerAt, isTolerance, headerMarked, headerOf}
 use Rattle.tape.specs.Codes.{qubitsOf, floatsOf, gateLength}
 use Rattle.tape.specs.Records.{markedAt, qubitsBelow, qubitsDiffer, entriesSmall, gateFault, sound, gateRecordAt, recordAt}
@@ -31,16 +29,16 @@ use Rattle.resolve.specs.Whole.{resolvedOf, fuseOf}
 use Rattle.detect.specs.declared.report.Report.{Report}
 use Rattle.detect.specs.declared.report.Answer.{Answer}
 use Rattle.detect.specs.Counts.{countedOnto}
-use Rattle.detect.specs.Report.{freeOf, reportOf}
-use Rattle.detect.specs.Compile.{labelsOf, itemsOf, orderOf, modeOfWire, tapeCounts, reportedOf, programOf}
+use Rattle.detect.specs.Report.{reportOf}
+use Rattle.detect.specs.Compile.{labelsOf, itemsOf, tapeCounts, reportedOf, programOf}
 use Rattle.detect.specs.Questions.{workFloats, workMarks, hasWork, answerOf, askedFrom}
 use Rattle.detect.proofs.Edges.{edges}
 use Rattle.detect.proofs.Reports.{blocks-add, operations-told}
-use Rattle.detect.proofs.Sums.{counts-add}
 use Rattle.local.specs.Bounds.{statePlaces}
 use Rattle.state.specs.Bounds.{dimOf}
 use Rattle.gaussian.specs.Run.{allApart, interacts, bytesOf, verdictOf, askedReport, ran}
-use Rattle.gaussian.proofs.Edges.{tape, cz01, iswap02}
+use Rattle.gaussian.proofs.Rows.{operations-few}
+use Rattle.gaussian.proofs.Edges.{tape, cz01, iswap02, headed, only, czOn01, iswapOn02, limit-unseen}
 
 -- ---- the theorem
 
@@ -121,63 +119,37 @@ pub record Both (t : List ℕ) (k l : ℕ) (work : List Float) (marks : List ℕ
 
 -- ---- what the tapes are
 
-abbrev headed : ℕ → ℕ → ℕ → Header
-headed n flags limit = record { n = n; flags = flags; tolerance = f0; limit = limit }
-
-abbrev only : Gate → Content
-only g = record { gates = g ∷ []; places = headerLength ∷ []; labels = [] }
-
-abbrev iswap : Gate
-iswap = Two 0x13 0 2 gateISwap
-
-abbrev cz : Gate
-cz = Two 0x11 0 1 gateCz
-
-parses : (parse (tape 3 0 31 1 iswap02) ≡ accepted (headed 3 0 287) (only iswap))
-    × (parse (tape 2 0 127 0 cz01) ≡ accepted (headed 2 0 127) (only cz))
+parses : (parse (tape 3 0 31 1 iswap02) ≡ accepted (headed 3 0 287) (only iswapOn02))
+    × (parse (tape 2 0 127 0 cz01) ≡ accepted (headed 2 0 127) (only czOn01))
     × (parse (tape 2 0 127 0 []) ≡ accepted (headed 2 0 127) nothing)
 unfolding parse afterHeader headerOf headerMarked isTolerance headerAt le64 le32 le16 ofBits lt le walk stepped recordAt markedAt gateRecordAt qubitsOf
     gateLength floatsOf gateFault qubitsBelow qubitsDiffer entriesSmall allBelow sound withGate gateAt matrix2At matrix2qOf
 parses = (refl, refl, refl)
 
--- the report does not see the limit
-limit-unseen : (n flags k l : ℕ) (gs : List Gate) → reportedOf (headed n flags k) gs ≡ reportedOf (headed n flags l) gs
-unfolding reportedOf tapeCounts itemsOf labelsOf orderOf
-limit-unseen n flags k l gs = refl
-
-apart : (reportedOf (headed 3 0 287) (iswap ∷ []) .bad ≡ 1) × (reportedOf (headed 3 0 287) (iswap ∷ []) .nonadjacent ≡ 1)
+apart : (reportedOf (headed 3 0 287) (iswapOn02 ∷ []) .bad ≡ 1) × (reportedOf (headed 3 0 287) (iswapOn02 ∷ []) .nonadjacent ≡ 1)
 apart =
-    let e = limit-unseen 3 0 287 0 (iswap ∷ []) in
+    let e = limit-unseen 3 0 287 0 (iswapOn02 ∷ []) in
     (ap (λ (r : Report). r .bad) e ∙ edges .1 .bad-is, ap (λ (r : Report). r .nonadjacent) e ∙ edges .1 .nonadjacent-is)
 
-all-apart : allApart (reportedOf (headed 3 0 287) (iswap ∷ [])) ≡ true
+all-apart : allApart (reportedOf (headed 3 0 287) (iswapOn02 ∷ [])) ≡ true
 unfolding allApart
 all-apart = rw (apart .0, apart .1)
 
-interaction : (reportedOf (headed 2 0 127) (cz ∷ []) .bad ≡ 0) × (reportedOf (headed 2 0 127) (cz ∷ []) .interactions ≡ 1)
+interaction : (reportedOf (headed 2 0 127) (czOn01 ∷ []) .bad ≡ 0) × (reportedOf (headed 2 0 127) (czOn01 ∷ []) .interactions ≡ 1)
 interaction =
-    let e = limit-unseen 2 0 127 0 (cz ∷ []) in
+    let e = limit-unseen 2 0 127 0 (czOn01 ∷ []) in
     (ap (λ (r : Report). r .bad) e ∙ edges .3 .bad-is, ap (λ (r : Report). r .interactions) e ∙ edges .3 .interactions-are)
 
-kept : interacts (headed 2 0 127) (reportedOf (headed 2 0 127) (cz ∷ [])) ≡ true
+kept : interacts (headed 2 0 127) (reportedOf (headed 2 0 127) (czOn01 ∷ [])) ≡ true
 unfolding interacts
 kept = rw (interaction .1)
 
 empty : (reportedOf (headed 2 0 127) [] .bad ≡ 0) × (interacts (headed 2 0 127) (reportedOf (headed 2 0 127) []) ≡ false)
-unfolding interacts reportedOf reportOf tapeCounts countedOnto itemsOf labelsOf labelled unlabelled fuseOf resolvedOf fused compressed resolved withRests startOf
-    upFrom
+unfolding interacts reportedOf reportOf tapeCounts countedOnto itemsOf labelsOf labelled unlabelled fuseOf resolvedOf fused compressed resolved withRests
+    startOf upFrom
 empty = (refl, refl)
 
 -- ---- they pass 9 and 10
-
--- a block becomes three operations at most
-operations-few : (h : Header) (gs : List Gate) → length (programOf h gs) ≤ 3 * reportedOf h gs .blocks
-unfolding reportedOf reportOf tapeCounts
-operations-few h gs = omega (arith, operations-told h gs, by (freeOf (tapeCounts h gs)))
-  where
-    by : (b : Bool) → cond b (tapeCounts h gs .operations) 0 ≤ 3 * tapeCounts h gs .blocks
-    by true = let a = counts-add (h .tolerance) (modeOfWire h gs) (itemsOf h gs .items) in omega (arith, a .operations, a .items)
-    by false = omega arith
 
 module _ (work : List Float) (marks : List ℕ) (ops state : List Float) (short : Short work marks ops state) where
   nine : (g n : ℕ) → g ≤ 1 → n ≤ 3 → hasWork g n (length work) (length marks) ≡ true
@@ -188,7 +160,7 @@ module _ (work : List Float) (marks : List ℕ) (ops state : List Float) (short 
       )
 
   ten : (h : Header) (gs : List Gate) → reportedOf h gs .blocks ≤ 1 → opPlaces * length (programOf h gs) ≤ length ops
-  ten h gs l = omega (arith, operations-few h gs, l, short .operations)
+  ten h gs l = omega (arith, operations-few h gs, operations-told h gs, l, short .operations)
 
   row : (t : List ℕ) (k l : ℕ) (h : Header) (c : Content) → parse t ≡ accepted h c → length (c .gates) ≤ 1 → h .n ≤ 3 → reportedOf h (c .gates) .blocks ≤ 1
       → No h (reportedOf h (c .gates)) (length state) k → First h (reportedOf h (c .gates)) k → No h (reportedOf h (c .gates)) (length state) l
@@ -202,26 +174,27 @@ module _ (work : List Float) (marks : List ℕ) (ops state : List Float) (short 
     answer = first-answer t h c e work marks ops state (nine (length (c .gates)) (h .n) g n) (ten h (c .gates) b) first;
   }
 
-  iswap-row : (l : ℕ) → No (headed 3 0 287) (reportedOf (headed 3 0 287) (iswap ∷ [])) (length state) l → Both (tape 3 0 31 1 iswap02) 11 l work marks ops state
+  iswap-row : (l : ℕ) → No (headed 3 0 287) (reportedOf (headed 3 0 287) (iswapOn02 ∷ [])) (length state) l → Both (tape 3 0 31 1 iswap02) 11 l work marks ops state
   iswap-row l =
-      row (tape 3 0 31 1 iswap02) 11 l (headed 3 0 287) (only iswap) (parses .0) (omega arith) (omega arith) (omega (arith, one)) (no-11 all-apart)
+      row (tape 3 0 31 1 iswap02) 11 l (headed 3 0 287) (only iswapOn02) (parses .0) (omega arith) (omega arith) (omega (arith, one)) (no-11 all-apart)
       (eleven all-apart)
     where
-      one : reportedOf (headed 3 0 287) (iswap ∷ []) .blocks ≤ 1
-      one = rw (limit-unseen 3 0 287 0 (iswap ∷ []))
-          (omega (arith, blocks-add (headed 3 0 0) (iswap ∷ []), edges .1 .gaussian-is, edges .1 .bad-is, edges .1 .interactions-are))
+      one : reportedOf (headed 3 0 287) (iswapOn02 ∷ []) .blocks ≤ 1
+      one = rw (limit-unseen 3 0 287 0 (iswapOn02 ∷ []))
+          (omega (arith, blocks-add (headed 3 0 0) (iswapOn02 ∷ []), edges .1 .gaussian-is, edges .1 .bad-is, edges .1 .interactions-are))
 
-  cz-row : (l : ℕ) → No (headed 2 0 127) (reportedOf (headed 2 0 127) (cz ∷ [])) (length state) l → Both (tape 2 0 127 0 cz01) 13 l work marks ops state
+  cz-row : (l : ℕ) → No (headed 2 0 127) (reportedOf (headed 2 0 127) (czOn01 ∷ [])) (length state) l → Both (tape 2 0 127 0 cz01) 13 l work marks ops state
   cz-row l =
-      row (tape 2 0 127 0 cz01) 13 l (headed 2 0 127) (only cz) (parses .1) (omega arith) (omega arith) (omega (arith, one)) (no-13 kept)
+      row (tape 2 0 127 0 cz01) 13 l (headed 2 0 127) (only czOn01) (parses .1) (omega arith) (omega arith) (omega (arith, one)) (no-13 kept)
       (thirteen (interaction .0) kept)
     where
-      one : reportedOf (headed 2 0 127) (cz ∷ []) .blocks ≤ 1
-      one = rw (limit-unseen 2 0 127 0 (cz ∷ []))
-          (omega (arith, blocks-add (headed 2 0 0) (cz ∷ []), edges .3 .gaussian-is, edges .3 .bad-is, edges .3 .interactions-are))
+      one : reportedOf (headed 2 0 127) (czOn01 ∷ []) .blocks ≤ 1
+      one = rw (limit-unseen 2 0 127 0 (czOn01 ∷ []))
+          (omega (arith, blocks-add (headed 2 0 0) (czOn01 ∷ []), edges .3 .gaussian-is, edges .3 .bad-is, edges .3 .interactions-are))
 
   none : reportedOf (headed 2 0 127) [] .blocks ≤ 1
-  unfolding reportedOf reportOf tapeCounts countedOnto itemsOf labelsOf labelled unlabelled fuseOf resolvedOf fused compressed resolved withRests startOf upFrom
+  unfolding reportedOf reportOf tapeCounts countedOnto itemsOf labelsOf labelled unlabelled fuseOf resolvedOf fused compressed resolved withRests startOf
+      upFrom
   none = omega arith
 
   pub both : {t : List ℕ} {k l : ℕ} → Fails t k l → Both t k l work marks ops state

@@ -44,7 +44,7 @@ use Rattle.fuse.specs.Relabel.{labelled, unlabelled}
 use Rattle.fuse.specs.Fuse.{fused}
 use Rattle.fuse.specs.Compress.{diagonal2Of, compressed}
 use Rattle.resolve.specs.Items as Items
-use Rattle.resolve.specs.Items.{Item, matchgate}
+use Rattle.resolve.specs.Items.{matchgate}
 use Rattle.resolve.specs.Cuts.{ones, ahead, keep, cuts, prefixOf}
 use Rattle.resolve.specs.Choose.{levelOf, candidateOf, betterOf, offerOf, offersOf, allOffers, tryEach, chooseOf}
 use Rattle.resolve.specs.Resolve.{candidates, chosen, resolved, withRests, startOf}
@@ -95,27 +95,27 @@ renamedItems = record {
 
 pub better : itemsOf (header 0) betterGates ≡ betterItems
 unfolding largestRootOf majorana0 majorana1 majorana2 majorana3 image4Of traceRow4Of trace4Of coefficient4Of coefficients4Of lessRow4Of less4Of rest4Of
-    plusRow4Of square4Of distance4Of mapRow4Of mapDistance4Of majoranaMap2Of dot2Of mul2Of timeStepOf timeProductFrom timeProductOf kronRowOf kronOf axpyOf rowMulOf
-    mul4Of conjColumnOf dag4Of isZeroOf maxOf minOf absOf sqrtOf add sub mul div neg lt le eq ofBits isNan plusThreeOf offSquareOf offdiag4Of interactionOf
-    phaseNoneOf diagonalOf withoutPhaseOf residual2Of swap4Of plainOf fallbackOf swappedOf classify2Of upFrom until from product labelled unlabelled labelsOf
-    itemsOf fused diagonal2Of compressed ones ahead keep cuts prefixOf levelOf candidateOf betterOf offerOf offersOf allOffers tryEach chooseOf candidates
-    chosen resolved withRests startOf resolvedOf fuseOf
+    plusRow4Of square4Of distance4Of mapRow4Of mapDistance4Of majoranaMap2Of dot2Of mul2Of timeStepOf timeProductFrom timeProductOf kronRowOf kronOf axpyOf
+    rowMulOf mul4Of conjColumnOf dag4Of isZeroOf maxOf minOf absOf sqrtOf add sub mul div neg lt le eq ofBits isNan plusThreeOf offSquareOf offdiag4Of
+    interactionOf phaseNoneOf diagonalOf withoutPhaseOf residual2Of swap4Of plainOf fallbackOf swappedOf classify2Of upFrom until from product labelled
+    unlabelled labelsOf itemsOf fused diagonal2Of compressed ones ahead keep cuts prefixOf levelOf candidateOf betterOf offerOf offersOf allOffers tryEach
+    chooseOf candidates chosen resolved withRests startOf resolvedOf fuseOf
 better = refl
 
 pub split : itemsOf (header 0) splitGates ≡ splitItems
 unfolding largestRootOf majorana0 majorana1 majorana2 majorana3 image4Of traceRow4Of trace4Of coefficient4Of coefficients4Of lessRow4Of less4Of rest4Of
-    plusRow4Of square4Of distance4Of mapRow4Of mapDistance4Of majoranaMap2Of dot2Of mul2Of timeStepOf timeProductFrom timeProductOf kronRowOf kronOf axpyOf rowMulOf
-    mul4Of conjColumnOf dag4Of isZeroOf maxOf minOf absOf sqrtOf add sub mul div neg lt le eq ofBits isNan plusThreeOf offSquareOf offdiag4Of interactionOf
-    phaseNoneOf diagonalOf withoutPhaseOf residual2Of swap4Of plainOf fallbackOf swappedOf classify2Of upFrom until from product labelled unlabelled labelsOf
-    itemsOf fused diagonal2Of compressed ones ahead keep cuts prefixOf levelOf candidateOf betterOf offerOf offersOf allOffers tryEach chooseOf candidates
-    chosen resolved withRests startOf resolvedOf fuseOf
+    plusRow4Of square4Of distance4Of mapRow4Of mapDistance4Of majoranaMap2Of dot2Of mul2Of timeStepOf timeProductFrom timeProductOf kronRowOf kronOf axpyOf
+    rowMulOf mul4Of conjColumnOf dag4Of isZeroOf maxOf minOf absOf sqrtOf add sub mul div neg lt le eq ofBits isNan plusThreeOf offSquareOf offdiag4Of
+    interactionOf phaseNoneOf diagonalOf withoutPhaseOf residual2Of swap4Of plainOf fallbackOf swappedOf classify2Of upFrom until from product labelled
+    unlabelled labelsOf itemsOf fused diagonal2Of compressed ones ahead keep cuts prefixOf levelOf candidateOf betterOf offerOf offersOf allOffers tryEach
+    chooseOf candidates chosen resolved withRests startOf resolvedOf fuseOf
 split = refl
 
 pub renamed : itemsOf (header 1) renamedGates ≡ renamedItems
 unfolding largestRootOf majorana0 majorana1 majorana2 majorana3 image4Of traceRow4Of trace4Of coefficient4Of coefficients4Of lessRow4Of less4Of rest4Of
-    plusRow4Of square4Of distance4Of mapRow4Of mapDistance4Of majoranaMap2Of dot2Of mul2Of timeStepOf timeProductFrom timeProductOf kronRowOf kronOf axpyOf rowMulOf
-    mul4Of conjColumnOf dag4Of isZeroOf maxOf minOf absOf sqrtOf add sub mul div neg lt le eq ofBits isNan plusThreeOf offSquareOf offdiag4Of interactionOf
-    phaseNoneOf diagonalOf withoutPhaseOf residual2Of swap4Of plainOf fallbackOf swappedOf classify2Of upFrom until from product labelled unlabelled labelsOf
-    itemsOf fused diagonal2Of compressed ones ahead keep cuts prefixOf levelOf candidateOf betterOf offerOf offersOf allOffers tryEach chooseOf candidates
-    chosen resolved withRests startOf resolvedOf fuseOf
+    plusRow4Of square4Of distance4Of mapRow4Of mapDistance4Of majoranaMap2Of dot2Of mul2Of timeStepOf timeProductFrom timeProductOf kronRowOf kronOf axpyOf
+    rowMulOf mul4Of conjColumnOf dag4Of isZeroOf maxOf minOf absOf sqrtOf add sub mul div neg lt le eq ofBits isNan plusThreeOf offSquareOf offdiag4Of
+    interactionOf phaseNoneOf diagonalOf withoutPhaseOf residual2Of swap4Of plainOf fallbackOf swappedOf classify2Of upFrom until from product labelled
+    unlabelled labelsOf itemsOf fused diagonal2Of compressed ones ahead keep cuts prefixOf levelOf candidateOf betterOf offerOf offersOf allOffers tryEach
+    chooseOf candidates chosen resolved withRests startOf resolvedOf fuseOf
 renamed = refl

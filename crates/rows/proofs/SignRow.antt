@@ -2,19 +2,20 @@
 -- block, a matchgate whose residual is exactly 0; the X goes into the second block, whose determinant is then -1. Z of qubit 2 is -1, and an engine
 -- that never turns a sign answers +1. Each stage is computed once: items, order and counts, operations, parity. Assumes nothing.
 use mathlib.Core.Path.{_≡_, refl, ap, _∙_}
-use mathlib.Core.Bool.{Bool, true, false, cond}
+use mathlib.Core.Bool.{false, cond}
 use mathlib.Core.List.{List, [], _∷_}
-use Prim.Native.Nat.{ℕ, _*_}
-use lib.Ieee.{Float, le, lt, eq, add, sub, mul, div, neg, isNan, ofBits, toUnsigned, ofInt}
+use Prim.Native.Nat.{ℕ}
+use lib.Ieee.{le, lt, eq, add, sub, mul, div, neg, isNan, ofBits, toUnsigned, ofInt}
 use Rattle.laws.specs.Zeros.{+0, +1}
-use Rattle.laws.specs.Views.{upFrom, until, from, listOf}
+use Rattle.laws.specs.Views.{upFrom, until, from}
 use Rattle.laws.specs.Maps.{dot}
-use Rattle.num.specs.Order.{absOf, maxOf, minOf}
+use Rattle.num.specs.Order.{absOf, maxOf}
 use Rattle.num.specs.Root.{sqrtOf}
 use Rattle.real.specs.Maps.{real4, map4}
 use Rattle.real.specs.declared.maps.Map4.{Map4}
 use Rattle.gate.specs.Complex.{cx, f0, c0, isZeroOf}
-use Rattle.gate.specs.Matrix.{row4, mat4, dot2Of, mul2Of, timeProductFrom, timeProductOf, kronRowOf, kronOf, axpyOf, rowMulOf, mul4Of, conjColumnOf, dag4Of, mat4SwapQubitsOf}
+use Rattle.gate.specs.Matrix.{row4, mat4, dot2Of, mul2Of, timeProductFrom, timeProductOf, kronRowOf, kronOf, axpyOf, rowMulOf, mul4Of}
+use Rattle.gate.specs.Matrix.{conjColumnOf, dag4Of}
 use Rattle.gate.specs.declared.complex.Complex.{Complex}
 use Rattle.gate.specs.declared.matrix.Mat4.{Mat4}
 use Rattle.named.specs.Table.{f½, f-½, f-1, gateX, gateSx, gateCnot}
@@ -66,12 +67,11 @@ use Rattle.detect.specs.Compile.{matchPairs, labelsOf, itemsOf, orderOf, tapeCo
 use Rattle.detect.proofs.Edges.{Fusing, tally-is}
 use Rattle.local.specs.State.{State, vacuum, get}
 use Rattle.local.specs.Det.{betterOf as better, lastLargest, less, loweredAll, eliminated, det, odd}
-use Rattle.state.specs.Operation.{isWhole, modeOf, oneOf, twoOf, decodeOf, effect}
+use Rattle.state.specs.Operation.{isWhole, modeOf, twoOf, decodeOf, effect}
 use Rattle.state.specs.Calls.{zOf}
 use Rattle.state.specs.declared.operation.Decoded.{Decoded}
 use Rattle.state.specs.declared.operation.Decoded.the-variants.{Good, Bad}
 use Rattle.evolve.specs.Evolve.{decodedEffect, evolvedFrom, evolved}
-use Rattle.signs.specs.Signs.{Engine}
 use Rattle.signs.specs.Engines.{noTurn}
 use Rattle.rows.specs.Evolved.{decodedBy, evolvedBy}
 
@@ -112,8 +112,8 @@ unfolding largestRootOf majorana0 majorana1 majorana2 majorana3 image4Of traceRo
     plusRow4Of square4Of distance4Of mapRow4Of mapDistance4Of majoranaMap2Of dot2Of mul2Of timeProductFrom timeProductOf kronRowOf kronOf axpyOf rowMulOf
     mul4Of conjColumnOf dag4Of isZeroOf maxOf absOf sqrtOf add sub mul div neg lt le eq ofBits isNan plusThreeOf offSquareOf offdiag4Of interactionOf
     phaseNoneOf diagonalOf withoutPhaseOf residual2Of plainOf classify2Of upFrom until from product labelled unlabelled labelsOf itemsOf fused diagonal2Of
-    compressed ones ahead keep cuts prefixOf levelOf candidateOf betterOf offerOf offersOf allOffers tryEach chooseOf candidates chosen resolved withRests startOf
-    resolvedOf fuseOf
+    compressed ones ahead keep cuts prefixOf levelOf candidateOf betterOf offerOf offersOf allOffers tryEach chooseOf candidates chosen resolved withRests
+    startOf resolvedOf fuseOf
 items-are = refl
 
 pub fusing-is : Fusing header gates items (0 ∷ 1 ∷ 2 ∷ []) 0 false
@@ -152,17 +152,17 @@ abbrev pub turnX : Map4
 turnX = map4 (real4 +1 +0 +0 +0) (real4 +0 +0 +1 +0) (real4 +0 f-1 +0 +0) (real4 +0 +0 +0 f-1)
 
 pub program-is : programOf header gates ≡ two 1 turn ∷ two 0 turnX ∷ two 1 turn ∷ []
-unfolding programOf countedOnto plusOf twoShare matchShare adjacentShare find operationsOf twoOperations orientedOf largestRootOf majorana0 majorana1 majorana2
-    majorana3 image4Of traceRow4Of trace4Of coefficient4Of coefficients4Of mapRow4Of majoranaMap2Of kronRowOf kronOf axpyOf rowMulOf mul4Of conjColumnOf dag4Of
-    isZeroOf add sub mul div neg lt le eq ofBits isNan
+unfolding programOf countedOnto plusOf twoShare matchShare adjacentShare find operationsOf twoOperations orientedOf largestRootOf majorana0 majorana1
+    majorana2 majorana3 image4Of traceRow4Of trace4Of coefficient4Of coefficients4Of mapRow4Of majoranaMap2Of kronRowOf kronOf axpyOf rowMulOf mul4Of
+    conjColumnOf dag4Of isZeroOf add sub mul div neg lt le eq ofBits isNan
 program-is = λ i. cond (freeOf (counts-are i)) (operationsOf (λ w. find w (order-is i .order)) (fusing-is .items i)) []
 
 -- ---- the parity
 
 -- the engine
 pub turned : zOf (get (evolved 3 (programOf header gates))) 2 ≡ f-1
-unfolding dot odd det upFrom eliminated lastLargest better loweredAll less absOf isWhole modeOf twoOf decodeOf effect placesOf decodedEffect evolvedFrom toUnsigned
-    ofInt lt le eq isNan add sub mul div neg ofBits
+unfolding dot odd det upFrom eliminated lastLargest better loweredAll less absOf isWhole modeOf twoOf decodeOf effect placesOf decodedEffect evolvedFrom
+    toUnsigned ofInt lt le eq isNan add sub mul div neg ofBits
 turned = ap (λ os. zOf (get (evolved 3 os)) 2) program-is
 
 -- by the engine's own effect it is the engine's
@@ -177,6 +177,6 @@ own n (o ∷ os) t = own n os (decodedBy effect (decodeOf n (placesOf o)) t) ∙
 
 -- one that never turns
 pub never-turned : zOf (get (evolvedBy noTurn 3 (programOf header gates) vacuum)) 2 ≡ +1
-unfolding dot odd det upFrom eliminated lastLargest better loweredAll less absOf isWhole modeOf twoOf decodeOf placesOf decodedBy evolvedBy toUnsigned
-    ofInt lt le eq isNan add sub mul div neg ofBits
+unfolding dot odd det upFrom eliminated lastLargest better loweredAll less absOf isWhole modeOf twoOf decodeOf placesOf decodedBy evolvedBy toUnsigned ofInt
+    lt le eq isNan add sub mul div neg ofBits
 never-turned = ap (λ os. zOf (get (evolvedBy noTurn 3 os vacuum)) 2) program-is
