@@ -1,8 +1,9 @@
-// The layout of the lent work: for each gate and each slot a record of 64 floats and 32 marks.
-// Every address among the marks is made here; floats are read and written by rows, in crate gate.
+// The layout of the lent work: for each gate and each slot a record of floats and marks. Every number
+// of the layout has its name here. Marks are read and written here, floats by rows in crate gate.
 
 mod columns; // what each column of the marks holds, and the kinds of a record
 mod marks; // a mark read, a mark written
+mod rows; // the sizes of a record, and what its floats hold
 
 pub use columns::A;
 pub use columns::AT;
@@ -33,3 +34,9 @@ pub use columns::TWO;
 pub use columns::WEIGHT;
 pub use marks::mark;
 pub use marks::put_mark;
+pub use rows::FIRST_ROW;
+pub use rows::KEPT;
+pub use rows::RECORD_FLOATS;
+pub use rows::RECORD_MARKS;
+pub use rows::RESIDUAL;
+pub use rows::SECOND_ROW;
