@@ -3,13 +3,14 @@
 use mathlib.Core.Path.{_≡_}
 use mathlib.Core.Bool.{cond}
 use mathlib.Core.List.{List}
-use Prim.Native.Nat.{ℕ, _+_, _*_, _<_, _≤_}
+use Prim.Native.Nat.{ℕ, _<_, _≤_}
 use lib.Dec.{eqb}
 use lib.ListN.{length, getD, take, drop}
 use lib.Seq.{paste}
 use lib.Ieee.{Float, nan}
 use Rattle.laws.specs.Bounds.{opPlaces}
 use Rattle.gate.specs.declared.matrix.Mat4.{Mat4}
+use Rattle.work.specs.Rows.{recordAt, floatPlace, itemEnd, keptRow}
 use Rattle.work.specs.Marks.{markAt}
 use Rattle.work.specs.Columns.{kindColumn, aColumn, bColumn, matchItem}
 use Rattle.majorana.specs.Majorana.{majoranaMap2Of}
@@ -26,7 +27,7 @@ matchPlaces i j v = twoPlaces (lowerOf i j) (majoranaMap2Of (orientedOf i j v) .
 
 -- where record i keeps them
 abbrev pub keptPlace : ℕ → ℕ
-keptPlace i = 64 * i + 40
+keptPlace i = floatPlace i keptRow
 
 -- ---- written
 
@@ -58,5 +59,5 @@ Kept xs us m = (i : ℕ) → i < m → KeptAt xs us i
 -- what the count c of the first m records leaves: the places of the items are as they were, and if nothing is bad the operations are kept
 pub record Counted (c : Counts) (xs ys : List Float) (us : List ℕ) (m : ℕ) : Type 0 where
   pub size : length ys ≡ length xs
-  pub same : (i q : ℕ) → 64 * i ≤ q → q < 64 * i + 33 → getD ys q nan ≡ getD xs q nan
+  pub same : (i q : ℕ) → recordAt i ≤ q → q < floatPlace i itemEnd → getD ys q nan ≡ getD xs q nan
   pub kept : c .bad ≡ 0 → Kept ys us m

@@ -3,9 +3,9 @@ use mathlib.Core.Bool.{Bool, cond, _&&_}
 use mathlib.Core.List.{List}
 use Prim.Native.Nat.{ℕ, _+_, _*_, _<_, _≤_}
 use lib.Dec.{eqb, leb}
-use lib.ListN.{length}
 use lib.Ieee.{Float}
 use Rattle.laws.specs.Bounds.{maxQubits}
+use Rattle.work.specs.Rows.{Floats, FloatsAt}
 use Rattle.work.specs.Marks.{markAt, column, Records}
 use Rattle.work.specs.Columns.{kindColumn, aColumn, bColumn, labColumn, contentColumn, posColumn, oneItem, opaqueItem}
 use Rattle.fuse.specs.Layout.{matrix2Of, matrix4Of}
@@ -55,7 +55,7 @@ pub record Small (c : Counts) : Type 0 where
 
 -- m records are there, n wires too, and the items' wires are such
 pub record Held (xs : List Float) (us : List ℕ) (m n : ℕ) : Type 0 where
-  pub floats : 64 * m ≤ length xs
+  pub floats : Floats xs m
   pub marks : Records us m
   pub modes : Records us n
   pub few : m < 65536
@@ -63,7 +63,7 @@ pub record Held (xs : List Float) (us : List ℕ) (m n : ℕ) : Type 0 where
 
 -- the item of record i can be read: its places and those of its wires are there
 abbrev pub ItemThere : List Float → List ℕ → ℕ → ℕ → Type 0
-ItemThere xs us i n = (64 * i + 64 ≤ length xs) × Records us (i + 1) × Records us n × ItemBelow n (recordItem xs us i)
+ItemThere xs us i n = FloatsAt xs i × Records us (i + 1) × Records us n × ItemBelow n (recordItem xs us i)
 
 -- slots, content and modes of n qubits can be read, for a table
 abbrev pub QubitsThere : List ℕ → ℕ → Type 0

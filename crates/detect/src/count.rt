@@ -9,7 +9,6 @@ ghost use Rattle.detect.specs.Emit.{orientedOf, lowerOf};
 ghost use Rattle.detect.specs.Counts.{gaussian, bad, oneShare, matchShare, turned, turnsIn, twoShare, plusOf, shareOf, countsOf};
 ghost use Rattle.detect.specs.Records.{isItemOf, recordItem, itemsIn, modesIn, ItemThere, Held, Small};
 ghost use Rattle.detect.specs.Kept.{matchKept, twoKept, recordKept, Counted};
-use crate::places::KEPT;
 use crate::places::put;
 use crate::places::two_places;
 use classify::Rotation;
@@ -30,11 +29,14 @@ use work::A;
 use work::B;
 use work::DIAGONAL_ITEM;
 use work::INTERACTION_ITEM;
+use work::KEPT;
 use work::KIND;
 use work::MATCH_ITEM;
 use work::ONE_ITEM;
 use work::OPAQUE_ITEM;
 use work::POS;
+use work::RECORD_FLOATS;
+use work::RESIDUAL;
 use work::mark;
 
 // Blocks, those on two wires, what they are, the operations that they become, the largest residual, and whether all commute with the particle number.
@@ -242,8 +244,8 @@ fn share_at(w: &mut [f64], u: &[u32], i: usize, n: usize, tol: f64) -> Counts
     let b = mark(u, i, B);
     let p = mark(u, a as usize, POS);
     let q = mark(u, b as usize, POS);
-    let at = 64 * i;
-    let residual = w[at + 32];
+    let at = RECORD_FLOATS * i;
+    let residual = w[at + RESIDUAL];
     let v = matrix4(w, i);
     two_share(w, at + KEPT, kind, p, q, residual, v)
 }

@@ -10,7 +10,6 @@ ghost use Rattle.detect.specs.Emit.{rotated, rotationsOf, twoOperations,
 ghost use Rattle.detect.specs.Records.{ItemThere, Held};
 ghost use Rattle.detect.specs.Kept.{KeptAt, Kept};
 use crate::count::is_item;
-use crate::places::KEPT;
 use crate::places::OP_PLACES;
 use crate::places::copy;
 use crate::places::interaction_places;
@@ -30,11 +29,13 @@ use work::A;
 use work::B;
 use work::DIAGONAL_ITEM;
 use work::INTERACTION_ITEM;
+use work::KEPT;
 use work::KIND;
 use work::MATCH_ITEM;
 use work::ONE_ITEM;
 use work::OPAQUE_ITEM;
 use work::POS;
+use work::RECORD_FLOATS;
 use work::mark;
 
 // ---- one item: each function writes from p on and answers where it ends
@@ -102,7 +103,7 @@ fn put_item(
         return p;
     }
     if kind == MATCH_ITEM {
-        copy(w, 64 * i + KEPT, ops, p);
+        copy(w, RECORD_FLOATS * i + KEPT, ops, p);
         return p + OP_PLACES;
     }
     let a = mark(u, i, A);

@@ -12,9 +12,6 @@ use real::Map4;
 // Places of an operation.
 pub const OP_PLACES: usize = 18;
 
-// Where a record keeps the operation of its matchgate, from its first float on.
-pub const KEPT: usize = 40;
-
 // The places of a map of mode k.
 pub fn one_places(k: u32, q: Map2) -> [f64; 18]
     ensures { λ r. ⌜ r ≡ onePlaces k q ⌝ }

@@ -2,6 +2,7 @@
 ghost use mathlib.Core.Path.{_≡_};
 ghost use Prim.Native.Nat.{_<_, _≤_};
 ghost use Rattle.laws.specs.Bounds.{maxQubits};
+ghost use Rattle.work.specs.Sizes.{recordMarks};
 ghost use Rattle.work.specs.Marks.{Records, column};
 ghost use Rattle.detect.specs.Report.{table};
 ghost use Rattle.detect.specs.Records.{qubitMode, ColumnBelow, QubitThere, QubitsThere};
@@ -13,7 +14,7 @@ use work::mark;
 
 // The first n marks of column c: the wire on each mode, the path starts.
 pub fn column_table(u: &[u32], n: usize, c: usize) -> [u16; MAX_QUBITS]
-    requires { ⌜ Records (now u) n × (n ≤ maxQubits) × (c < 32) × ColumnBelow (now u) c n 65536 ⌝ }
+    requires { ⌜ Records (now u) n × (n ≤ maxQubits) × (c < recordMarks) × ColumnBelow (now u) c n 65536 ⌝ }
     ensures { λ r. ⌜ r ≡ table n (column c (now (u .entry))) ⌝ }
 {
     let mut t = [0; MAX_QUBITS];

@@ -1,10 +1,10 @@
--- Where the events stand in the lent work. Gate i has the 64 floats from 64 * i on, of which the first 32 are its matrix (a 2 by 2: the first 8), and the
--- marks of record i: its kind and its slots. What the code promises is said of the event that a record holds, `eventAt`. Assumes nothing.
+-- Where the events stand in the lent work. Gate i has record i: the floats, of which the first are its matrix, and the marks, its kind and its slots.
+-- What the code promises is said of the event that a record holds, `eventAt`. Assumes nothing.
 -- Only inner functions rest on this.
 use mathlib.Core.Path.{_≡_}
 use mathlib.Core.Bool.{Bool, false, cond, _||_}
 use mathlib.Core.List.{List}
-use Prim.Native.Nat.{ℕ, _+_, _*_, _-_, _<_, _≤_}
+use Prim.Native.Nat.{ℕ, _+_, _-_, _<_, _≤_}
 use lib.Dec.{eqb}
 use lib.ListN.{length}
 use lib.Ieee.{Float}
@@ -12,6 +12,7 @@ use Rattle.laws.specs.Views.{between, seek, Step, Pass}
 use Rattle.gate.specs.Lent.{mat2At, mat4At, store2Of, store4Of}
 use Rattle.gate.specs.declared.matrix.Mat2.{Mat2}
 use Rattle.gate.specs.declared.matrix.Mat4.{Mat4}
+use Rattle.work.specs.Rows.{recordAt, Floats}
 use Rattle.work.specs.Marks.{markAt, Records, Only}
 use Rattle.work.specs.Columns.{kindColumn, aColumn, bColumn, cColumn, oneKind, twoKind, threeKind}
 use Rattle.fuse.specs.Events.{Event, gone, one, two, three, clear}
@@ -19,12 +20,12 @@ use Rattle.fuse.specs.Fuse.{grown}
 
 -- the places of g gates are there
 pub record Room (xs : List Float) (us : List ℕ) (g : ℕ) : Type 0 where
-  pub floats : 64 * g ≤ length xs
+  pub floats : Floats xs g
   pub marks : Records us g
 
 -- g gates and n slots have their records
 pub record Space (xs : List Float) (us : List ℕ) (g n : ℕ) : Type 0 where
-  pub floats : 64 * (g + n) ≤ length xs
+  pub floats : Floats xs (g + n)
   pub marks : Records us (g + n)
   pub few : g + n < 65536
 
@@ -37,16 +38,16 @@ pub record Within (us : List ℕ) (i g n : ℕ) : Type 0 where
 -- ---- the matrix of a record
 
 abbrev pub matrix2Of : List Float → ℕ → Mat2
-matrix2Of xs i = mat2At xs (64 * i)
+matrix2Of xs i = mat2At xs (recordAt i)
 
 abbrev pub matrix4Of : List Float → ℕ → Mat4
-matrix4Of xs i = mat4At xs (64 * i)
+matrix4Of xs i = mat4At xs (recordAt i)
 
 abbrev pub putMatrix2Of : List Float → ℕ → Mat2 → List Float
-putMatrix2Of xs i m = store2Of xs (64 * i) m
+putMatrix2Of xs i m = store2Of xs (recordAt i) m
 
 abbrev pub putMatrix4Of : List Float → ℕ → Mat4 → List Float
-putMatrix4Of xs i m = store4Of xs (64 * i) m
+putMatrix4Of xs i m = store4Of xs (recordAt i) m
 
 -- ---- the event of a record
 

@@ -1,7 +1,7 @@
 // A gate's record in the lent work: its matrix among the floats, and tests on its marks.
 ghost use mathlib.Core.Path.{_≡_};
-ghost use Prim.Native.Nat.{_+_, _*_, _≤_};
-ghost use lib.ListN.{length};
+ghost use Prim.Native.Nat.{_+_};
+ghost use Rattle.work.specs.Rows.{FloatsAt};
 ghost use Rattle.work.specs.Marks.{Records};
 ghost use Rattle.fuse.specs.Layout.{matrix2Of, matrix4Of, putMatrix2Of, putMatrix4Of, oneAt, blockAt};
 use gate::Mat2;
@@ -16,6 +16,7 @@ use work::B;
 use work::C;
 use work::KIND;
 use work::ONE;
+use work::RECORD_FLOATS;
 use work::THREE;
 use work::TWO;
 use work::mark;
@@ -23,31 +24,31 @@ use work::mark;
 // ---- matrices
 
 pub fn matrix2(w: &[f64], i: usize) -> Mat2
-    requires { ⌜ 64 * i + 64 ≤ length (now w) ⌝ }
+    requires { ⌜ FloatsAt (now w) i ⌝ }
     ensures { λ r. ⌜ r ≡ matrix2Of (now (w .entry)) i ⌝ }
 {
-    load2(w, 64 * i)
+    load2(w, RECORD_FLOATS * i)
 }
 
 pub fn matrix4(w: &[f64], i: usize) -> Mat4
-    requires { ⌜ 64 * i + 64 ≤ length (now w) ⌝ }
+    requires { ⌜ FloatsAt (now w) i ⌝ }
     ensures { λ r. ⌜ r ≡ matrix4Of (now (w .entry)) i ⌝ }
 {
-    load4(w, 64 * i)
+    load4(w, RECORD_FLOATS * i)
 }
 
 pub fn put_matrix2(w: &mut [f64], i: usize, m: Mat2)
-    requires { ⌜ 64 * i + 64 ≤ length (now w) ⌝ }
+    requires { ⌜ FloatsAt (now w) i ⌝ }
     ensures { λ _. ⌜ now (w .exit) ≡ putMatrix2Of (now (w .entry)) i m ⌝ }
 {
-    store2(w, 64 * i, m);
+    store2(w, RECORD_FLOATS * i, m);
 }
 
 pub fn put_matrix4(w: &mut [f64], i: usize, m: Mat4)
-    requires { ⌜ 64 * i + 64 ≤ length (now w) ⌝ }
+    requires { ⌜ FloatsAt (now w) i ⌝ }
     ensures { λ _. ⌜ now (w .exit) ≡ putMatrix4Of (now (w .entry)) i m ⌝ }
 {
-    store4(w, 64 * i, m);
+    store4(w, RECORD_FLOATS * i, m);
 }
 
 // ---- tests

@@ -5,13 +5,15 @@ use mathlib.Core.Path.{_≡_}
 use mathlib.Core.Logic.{_⊎_}
 use mathlib.Core.Bool.{Bool, false, cond, _&&_}
 use mathlib.Core.List.{List, [], _∷_}
-use Prim.Native.Nat.{ℕ, _+_, _*_, _-_, _<_, _≤_}
+use Prim.Native.Nat.{ℕ, _+_, _-_, _<_, _≤_}
 use lib.Dec.{eqb, leb}
 use lib.ListN.{length, getD, set}
 use lib.Ieee.{Float, nan}
 use Rattle.laws.specs.Views.{listOf, upFrom}
 use Rattle.gate.specs.Lent.{mat2At}
 use Rattle.gate.specs.declared.matrix.Mat2.{Mat2}
+use Rattle.work.specs.Sizes.{recordFloats}
+use Rattle.work.specs.Rows.{floatPlace, rowFloats, residualPlace, firstTail, secondTail}
 use Rattle.work.specs.Marks.{markAt, putMark}
 use Rattle.work.specs.Columns.{kindColumn, aColumn, bColumn, cColumn, labColumn, contentColumn}
 use Rattle.work.specs.Columns.{goneKind, oneItem, matchItem, diagonalItem, interactionItem, neitherItem, opaqueItem}
@@ -49,9 +51,9 @@ kindAt k =
     cond (eqb k (kindMark matchgate)) matchgate
     (cond (eqb k (kindMark phaseless)) phaseless (cond (eqb k (kindMark interacting)) interacting neither))
 
--- the residual of a two-qubit item stands after its matrix
+-- the residual of a two-qubit item
 abbrev pub residualAt : List Float → ℕ → Float
-residualAt xs i = getD xs (64 * i + 32) nan
+residualAt xs i = getD xs (floatPlace i residualPlace) nan
 
 -- the item of record i, if it has one
 abbrev pub item : ℕ → ℕ → ℕ → Mat2 → Item → List Item
@@ -96,21 +98,21 @@ unfoldable pub itemMarks : List ℕ → ℕ → ℕ → ℕ → ℕ → List ℕ
 itemMarks us i k a b = putMark (putMark (putMark us i kindColumn k) i aColumn a) i bColumn b
 
 unfoldable pub itemFloats : List Float → ℕ → Class2 → List Float
-itemFloats xs i c = set (putMatrix4Of xs i (c .v)) (64 * i + 32) (residualOf (c .kind))
+itemFloats xs i c = set (putMatrix4Of xs i (c .v)) (floatPlace i residualPlace) (residualOf (c .kind))
 
 -- ---- the tails of a block
 
 -- what cut t of the first and of the second tail takes
 abbrev pub firstRow : List Float → ℕ → Mat2
-firstRow xs t = mat2At xs (64 * t + 40)
+firstRow xs t = mat2At xs (floatPlace t firstTail)
 
 abbrev pub secondRow : List Float → ℕ → Mat2
-secondRow xs t = mat2At xs (64 * t + 48)
+secondRow xs t = mat2At xs (floatPlace t secondTail)
 
--- in each record only the eight floats from `row` on have changed
+-- in each record only the floats of the row from `row` on have changed
 pub record RowOnly (row : ℕ) (xs ys : List Float) : Type 0 where
   pub size : length ys ≡ length xs
-  pub same : (i q : ℕ) → q < 64 → (q < row) ⊎ (row + 8 ≤ q) → getD ys (64 * i + q) nan ≡ getD xs (64 * i + q) nan
+  pub same : (i q : ℕ) → q < recordFloats → (q < row) ⊎ (row + rowFloats ≤ q) → getD ys (floatPlace i q) nan ≡ getD xs (floatPlace i q) nan
 
 -- no gate from j on and before r is on s
 pub record PassedOver (us : List ℕ) (s j g r : ℕ) : Type 0 where
@@ -123,7 +125,7 @@ pub record Prefixes (xs ys : List Float) (us : List ℕ) (k g s row r : ℕ) : T
   pub only : RowOnly row xs ys
   pub few : r + k ≤ g
   pub long : r ≡ length (ahead s (todo xs us k g))
-  pub each : (t : ℕ) → t ≤ r → mat2At ys (64 * t + row) ≡ prefixOf (ahead s (todo xs us k g)) t
+  pub each : (t : ℕ) → t ≤ r → mat2At ys (floatPlace t row) ≡ prefixOf (ahead s (todo xs us k g)) t
 
 -- ---- one event
 

@@ -1,7 +1,7 @@
 // The best pair of cuts of a block's two closing tails: every pair is tried.
 ghost use mathlib.Core.Path.{_≡_};
-ghost use Prim.Native.Nat.{_+_, _*_, _≤_, _<_};
-ghost use lib.ListN.{length};
+ghost use Prim.Native.Nat.{_<_};
+ghost use Rattle.work.specs.Rows.{FloatsAt};
 ghost use Rattle.resolve.specs.Cuts.{cuts};
 ghost use Rattle.resolve.specs.Choose.{candidateOf, betterOf, offerOf, offersOf, tryEach, chooseOf};
 ghost use Rattle.resolve.specs.Slots.{firstRow, secondRow};
@@ -16,11 +16,9 @@ use gate::kron;
 use gate::load2;
 use gate::mul4;
 use num::either;
-
-// Rows of the records for what the cuts of the two tails take.
-pub const FIRST_ROW: usize = 40;
-
-pub const SECOND_ROW: usize = 48;
+use work::FIRST_ROW;
+use work::RECORD_FLOATS;
+use work::SECOND_ROW;
 
 // A candidate: its score, the cuts of the two tails, and the class that the block then has.
 pub struct Choice {
@@ -107,15 +105,15 @@ fn try_row(
     lb: usize,
     start: Search,
 ) -> Search
-    requires { ⌜ (64 * ka + 64 ≤ length (now w)) × (64 * lb + 64 ≤ length (now w)) × (ka < 65536) × (lb < 65535) ⌝ }
+    requires { ⌜ FloatsAt (now w) ka × FloatsAt (now w) lb × (ka < 65536) × (lb < 65535) ⌝ }
     ensures { λ r. ⌜ r ≡ tryEach relabel tol base (firstRow (now (w .entry))) (secondRow (now (w .entry))) (offersOf ka (cuts lb)) start ⌝ }
 {
-    let ma = load2(w, 64 * ka + FIRST_ROW);
+    let ma = load2(w, RECORD_FLOATS * ka + FIRST_ROW);
     let mut s = start;
     let mut kb = 0;
     while kb <= lb {
         if in_window(lb, kb) {
-            let mb = load2(w, 64 * kb + SECOND_ROW);
+            let mb = load2(w, RECORD_FLOATS * kb + SECOND_ROW);
             s = offer(ka, kb, classify2(relabel, tol, mul4(kron(ma, mb), base)), s);
         }
         kb += 1;
@@ -125,7 +123,7 @@ fn try_row(
 
 // The best pair of cuts of tails of la and lb gates, whose prefixes stand in the records.
 pub fn choose(w: &[f64], relabel: bool, tol: f64, base: Mat4, la: usize, lb: usize) -> Search
-    requires { ⌜ (64 * la + 64 ≤ length (now w)) × (64 * lb + 64 ≤ length (now w)) × (la < 65535) × (lb < 65535) ⌝ }
+    requires { ⌜ FloatsAt (now w) la × FloatsAt (now w) lb × (la < 65535) × (lb < 65535) ⌝ }
     ensures { λ r. ⌜ r ≡ chooseOf relabel tol base (firstRow (now (w .entry))) (secondRow (now (w .entry))) la lb ⌝ }
 {
     let none = Class2 {

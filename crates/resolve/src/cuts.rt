@@ -1,7 +1,9 @@
 // Closing tails and their cuts.
 ghost use mathlib.Core.Path.{_≡_};
-ghost use Prim.Native.Nat.{_+_, _*_, _≤_, _<_};
+ghost use Prim.Native.Nat.{_+_, _≤_, _<_};
 ghost use lib.ListN.{length};
+ghost use Rattle.work.specs.Sizes.{recordFloats};
+ghost use Rattle.work.specs.Rows.{rowFloats, matrixFloats};
 ghost use Rattle.work.specs.Marks.{Records};
 ghost use Rattle.fuse.specs.Layout.{Room};
 ghost use Rattle.resolve.specs.Cuts.{cuts, inWindow};
@@ -13,6 +15,7 @@ use gate::identity2;
 use gate::store2;
 use gate::time_step;
 use num::either;
+use work::RECORD_FLOATS;
 
 // Longest prefix and suffix of a tail whose cut points are all tried.
 const CUT_WINDOW: usize = 8;
@@ -57,7 +60,7 @@ fn next_on(u: &[u32], j: usize, g: usize, s: u32) -> usize
 // The tail on slot s after gate k - 1: what each of its cuts takes, cut t in a row of record t. The
 // answer is its length.
 pub fn prefixes(w: &mut [f64], u: &[u32], k: usize, g: usize, s: u32, row: usize) -> usize
-    requires { ⌜ Room (now w) (now u) g × (0 < k) × (k ≤ g) × (32 ≤ row) × (row ≤ 56) ⌝ }
+    requires { ⌜ Room (now w) (now u) g × (0 < k) × (k ≤ g) × (matrixFloats ≤ row) × (row + rowFloats ≤ recordFloats) ⌝ }
     ensures { λ r. ⌜ Prefixes (now (w .entry)) (now (w .exit)) (now (u .entry)) k g s row r ⌝ }
 {
     let mut acc = identity2();
@@ -71,7 +74,7 @@ pub fn prefixes(w: &mut [f64], u: &[u32], k: usize, g: usize, s: u32, row: usize
         if one_on(u, j, s) {
             acc = time_step(acc, matrix2(w, j));
             len += 1;
-            store2(w, 64 * len + row, acc);
+            store2(w, RECORD_FLOATS * len + row, acc);
         }
         j = next_on(u, j + 1, g, s);
     }

@@ -1,7 +1,7 @@
 // What an event leaves behind: the remainders and splits of its slots, the wires in them, an item.
 ghost use mathlib.Core.Path.{_≡_};
-ghost use Prim.Native.Nat.{_+_, _*_, _^_, _<_, _≤_};
-ghost use lib.ListN.{length};
+ghost use Prim.Native.Nat.{_+_, _^_, _<_, _≤_};
+ghost use Rattle.work.specs.Rows.{FloatsAt};
 ghost use Rattle.work.specs.Marks.{markAt, Records};
 ghost use Rattle.work.specs.Columns.{kindColumn, oneKind};
 ghost use Rattle.resolve.specs.Items.{kindOf};
@@ -31,6 +31,8 @@ use work::MATCH_ITEM;
 use work::NEITHER_ITEM;
 use work::ONE_ITEM;
 use work::OPAQUE_ITEM;
+use work::RECORD_FLOATS;
+use work::RESIDUAL;
 use work::mark;
 use work::put_mark;
 
@@ -43,7 +45,7 @@ pub struct Tally {
 
 // What a block takes from slot s, whose remainder stands in record g + s: this, or the identity if there is none.
 pub fn opening(w: &[f64], u: &[u32], g: usize, s: usize) -> Mat2
-    requires { ⌜ (64 * (g + s) + 64 ≤ length (now w)) × (Records (now u) (g + s + 1)) ⌝ }
+    requires { ⌜ FloatsAt (now w) (g + s) × Records (now u) (g + s + 1) ⌝ }
     ensures { λ r. ⌜ r ≡ opened (restAt (now (w .entry)) (now (u .entry)) g s) ⌝ }
 {
     if mark(u, g + s, KIND) == ONE_ITEM {
@@ -95,12 +97,12 @@ fn put_item(u: &mut [u32], i: usize, kind: u32, a: u32, b: u32)
 
 // The floats of a two-qubit item: the matrix to apply, and the residual after it.
 fn put_block(w: &mut [f64], i: usize, class: Class2)
-    requires { ⌜ 64 * i + 64 ≤ length (now w) ⌝ }
+    requires { ⌜ FloatsAt (now w) i ⌝ }
     ensures { λ _. ⌜ now (w .exit) ≡ itemFloats (now (w .entry)) i class ⌝ }
 {
     let kind = class.kind;
     put_matrix4(w, i, class.v);
-    w[64 * i + 32] = residual(kind);
+    w[RECORD_FLOATS * i + RESIDUAL] = residual(kind);
 }
 
 // The one-qubit gate i: the next of its slot's remainder, unless the block before has taken it.

@@ -3,7 +3,8 @@
 
 mod columns; // what each column of the marks holds, and the kinds of a record
 mod marks; // a mark read, a mark written
-mod rows; // the sizes of a record, and what its floats hold
+mod rows; // what the floats of a record hold
+mod sizes; // how many floats and marks a record has
 
 pub use columns::A;
 pub use columns::AT;
@@ -36,7 +37,7 @@ pub use marks::mark;
 pub use marks::put_mark;
 pub use rows::FIRST_ROW;
 pub use rows::KEPT;
-pub use rows::RECORD_FLOATS;
-pub use rows::RECORD_MARKS;
 pub use rows::RESIDUAL;
 pub use rows::SECOND_ROW;
+pub use sizes::RECORD_FLOATS;
+pub use sizes::RECORD_MARKS;

@@ -1,11 +1,6 @@
-// What the floats and the marks of a record are: how many there are, and what stands where. specs/Rows.antt says more.
+// What stands where among the floats of a record: specs/Rows.antt says more. The matrix has the first ones.
 
-// Question 9 asks for so many floats and marks for each gate and each qubit.
-pub const RECORD_FLOATS: usize = 64;
-
-pub const RECORD_MARKS: usize = 32;
-
-// Of an item on two wires: its residual, after the matrix, which has the first floats.
+// Of an item on two wires: its residual.
 pub const RESIDUAL: usize = 32;
 
 // Of a matchgate's record: its operation, from the count of the items until it is written.
