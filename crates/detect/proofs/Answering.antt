@@ -9,6 +9,7 @@ use lib.Ieee.{Float}
 use borrow.Author.Tests.{lt-ltb, le-ltb}
 use Rattle.laws.specs.Slices.{filled}
 use Rattle.laws.proofs.Slices.{filled-over}
+use Rattle.laws.specs.Bounds.{opPlaces}
 use Rattle.tape.specs.Parse.{Content}
 use Rattle.tape.specs.declared.header.Header.{Header}
 use Rattle.tape.specs.declared.gates.Gate.{Gate}
@@ -33,11 +34,11 @@ filled-whole v d l m e =
 -- ---- question 10
 
 module _ (h : Header) (c : Content) (o : ℕ) where
-  pub ten-short : o < 18 * length (programOf h (c .gates)) → askedTen o h c ≡ late 10 h c
-  ten-short l = rw (lt-ltb o (18 * length (programOf h (c .gates))) l)
+  pub ten-short : o < opPlaces * length (programOf h (c .gates)) → askedTen o h c ≡ late 10 h c
+  ten-short l = rw (lt-ltb o (opPlaces * length (programOf h (c .gates))) l)
 
-  pub ten-long : 18 * length (programOf h (c .gates)) ≤ o → askedTen o h c ≡ passed h c
-  ten-long l = rw (le-ltb o (18 * length (programOf h (c .gates))) l)
+  pub ten-long : opPlaces * length (programOf h (c .gates)) ≤ o → askedTen o h c ≡ passed h c
+  ten-long l = rw (le-ltb o (opPlaces * length (programOf h (c .gates))) l)
 
 -- ---- the report's numbers
 
@@ -83,13 +84,13 @@ module _ (h : Header) (gs : List Gate) where
     unfolding programOf
     program-is e = rw (sym free-is ∙ e) (sym emits)
 
-    pub too-short : (o : ℕ) → o < 18 * r .operations → o < 18 * length (programOf h gs)
+    pub too-short : (o : ℕ) → o < opPlaces * r .operations → o < opPlaces * length (programOf h gs)
     too-short o k = omega (arith, k, number-is)
 
-    pub long-enough : (o : ℕ) → 18 * r .operations ≤ o → 18 * length (programOf h gs) ≤ o
+    pub long-enough : (o : ℕ) → opPlaces * r .operations ≤ o → opPlaces * length (programOf h gs) ≤ o
     long-enough o k = omega (arith, k, number-is)
 
-    pub emits-fit : (o : ℕ) → 18 * r .operations ≤ o → r .free ≡ true → length (allPlaces (operationsOf (modesIn vs) (itemsIn ys vs (g + h .n)))) ≤ o
+    pub emits-fit : (o : ℕ) → opPlaces * r .operations ≤ o → r .free ≡ true → length (allPlaces (operationsOf (modesIn vs) (itemsIn ys vs (g + h .n)))) ≤ o
     emits-fit o k e =
         omega (arith, long-enough o k, length-all (operationsOf (modesIn vs) (itemsIn ys vs (g + h .n))), ap length (program-is e))
 

@@ -16,6 +16,8 @@ use Rattle.laws.proofs.Cases.{eq-or-ne}
 use Rattle.laws.proofs.Views.{up-join, getD-listOf}
 use Rattle.laws.specs.Lists.{All}
 use Rattle.laws.proofs.Lists.{all-append}
+use Rattle.work.specs.Sizes.{recordMarks}
+use Rattle.work.specs.Rows.{recordAt}
 use Rattle.work.specs.Marks.{markAt, Only, column}
 use Rattle.work.specs.Columns.{kindColumn, aColumn, bColumn, labColumn, contentColumn, orderColumn, posColumn, startColumn, matchItem}
 use Rattle.tape.specs.Good.{GoodGate}
@@ -212,10 +214,10 @@ module _ (t : List ℕ) (h : Header) (good : (x : Gate) → List·Memᴰ x (gate
   below₂ : ItemsBelow (h .n) (itemsIn xs₂ us₂ (g + h .n))
   below₂ = rw items-are (wires-items h (gatesOf t) good)
 
-  pub floats-there : 64 * (g + h .n) ≤ length xs₂
+  pub floats-there : recordAt (g + h .n) ≤ length xs₂
   floats-there = omega (arith, space .floats, r .size, w .size)
 
-  pub marks-there : 32 * (g + h .n) ≤ length us₂
+  pub marks-there : recordMarks * (g + h .n) ≤ length us₂
   marks-there = omega (arith, space .marks, r .marks, w .marks)
 
   pub pairs-below : WiresBelow us₂ (g + h .n) (h .n)

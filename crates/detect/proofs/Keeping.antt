@@ -13,7 +13,9 @@ use borrow.Author.Tests.{ne-eqb}
 use borrow.Rule.Slice.PartMut.{putMid}
 use Rattle.laws.proofs.Cases.{lt-or-le, eq-or-ne}
 use Rattle.laws.proofs.Slices.{part-at, length-put, put-before, put-after}
+use Rattle.laws.specs.Bounds.{opPlaces}
 use Rattle.gate.proofs.Stored.{mat2-alike, mat4-alike}
+use Rattle.work.specs.Rows.{recordAt, floatPlace, FloatsAt, residualPlace, itemEnd}
 use Rattle.work.specs.Marks.{markAt}
 use Rattle.work.specs.Columns.{kindColumn, aColumn, bColumn}
 use Rattle.order.specs.Arrangement.{besideOf}
@@ -28,14 +30,14 @@ use Rattle.detect.specs.Kept.{matchPlaces, keptPlace, matchKept, twoKept
 -- ---- floats that are the same where the items are
 
 abbrev Alike : List Float → List Float → Type 0
-Alike xs ys = (i q : ℕ) → 64 * i ≤ q → q < 64 * i + 33 → getD ys q nan ≡ getD xs q nan
+Alike xs ys = (i q : ℕ) → recordAt i ≤ q → q < floatPlace i itemEnd → getD ys q nan ≡ getD xs q nan
 
 module _ (xs ys : List Float) (us : List ℕ) (same : Alike xs ys) where
   matrix-stays : (i : ℕ) → matrix4Of ys i ≡ matrix4Of xs i
-  matrix-stays i = mat4-alike xs ys (64 * i) (λ q a b. same i q a (omega arith))
+  matrix-stays i = mat4-alike xs ys (recordAt i) (λ q a b. same i q a (omega arith))
 
   pub record-stays : (i : ℕ) → recordItem ys us i ≡ recordItem xs us i
-  record-stays i = rw (mat2-alike xs ys (64 * i) (λ q a b. same i q a (omega arith)), matrix-stays i, same i (64 * i + 32) (omega arith) (omega arith))
+  record-stays i = rw (mat2-alike xs ys (recordAt i) (λ q a b. same i q a (omega arith)), matrix-stays i, same i (floatPlace i residualPlace) (omega arith) (omega arith))
 
   pub items-keep : (m : ℕ) → itemsIn ys us m ≡ itemsIn xs us m
   items-keep m = newest-same (itemAt xs us) (itemAt ys us) m (λ j l. item-alike xs ys us us j refl refl refl (same j))
@@ -106,7 +108,7 @@ module _ (xs : List Float) (us : List ℕ) where
       kept = λ z. other (λ q. true≢false (sym (ap isItemOf q) ∙ e)) (old .kept z);
     }
 
-    module _ (tol : Float) (fit : 64 * i + 64 ≤ length ys) where
+    module _ (tol : Float) (fit : FloatsAt ys i) where
       abbrev first : ℕ
       first = modesIn us (markAt us i aColumn)
 
@@ -154,10 +156,10 @@ module _ (xs : List Float) (us : List ℕ) where
         unfolding twoKept matchKept
         beside-written b = rw (e, b) refl
 
-        outside : (j q : ℕ) → 64 * j ≤ q → q < 64 * j + 33 → (q < keptPlace i) ⊎ (keptPlace i + 18 ≤ q)
+        outside : (j q : ℕ) → recordAt j ≤ q → q < floatPlace j itemEnd → (q < keptPlace i) ⊎ (keptPlace i + opPlaces ≤ q)
         outside j q lo hi = by (lt-or-le q (keptPlace i)) (lt-or-le i j)
           where
-            by : (q < keptPlace i) ⊎ (keptPlace i ≤ q) → (i < j) ⊎ (j ≤ i) → (q < keptPlace i) ⊎ (keptPlace i + 18 ≤ q)
+            by : (q < keptPlace i) ⊎ (keptPlace i ≤ q) → (i < j) ⊎ (j ≤ i) → (q < keptPlace i) ⊎ (keptPlace i + opPlaces ≤ q)
             by (inl h) g = inl h
             by (inr h) (inl g) = inr (omega arith)
             by (inr h) (inr g) = absurd (omega arith)

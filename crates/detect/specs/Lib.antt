@@ -7,4 +7,5 @@ pub mod Kept
 pub mod Report
 pub mod Compile
 pub mod Questions
+pub mod Lending
 pub mod Program

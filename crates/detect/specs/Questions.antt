@@ -1,19 +1,17 @@
 -- Public `compile`: its questions 1 to 10 in their order are one value, `asked`, from which the answer and every slice follow. The questions up to 9, what
 -- they come to, and what a refusal leaves are said for `run` too, which asks on (crate `gaussian`). Assumes nothing. A public promise rests on this.
-use mathlib.Core.Path.{_≡_}
 use mathlib.Core.Bool.{Bool, cond}
 use mathlib.Core.List.{List}
-use Prim.Native.Nat.{ℕ, _+_, _*_, _≤_}
+use Prim.Native.Nat.{ℕ, _*_}
 use lib.Dec.{ltb}
 use lib.ListN.{length}
 use lib.Ieee.{Float}
 use Rattle.laws.specs.Slices.{filled}
-use Rattle.laws.specs.Bounds.{maxQubits, opPlaces}
+use Rattle.laws.specs.Bounds.{opPlaces}
 use Rattle.gate.specs.Complex.{f0}
-use Rattle.tape.specs.Bounds.{maxGates}
+use Rattle.work.specs.Sizes.{workFloats, workMarks}
 use Rattle.tape.specs.Parse.{Parsed, Content, refused, accepted, parse, contentOf}
 use Rattle.tape.specs.declared.header.Header.{Header}
-use Rattle.fuse.specs.Slotted.{Gates}
 use Rattle.detect.specs.declared.report.Report.{Report}
 use Rattle.detect.specs.declared.report.Answer.{Answer}
 use Rattle.detect.specs.declared.report.Answer.the-variants.{Done, Refused}
@@ -70,13 +68,6 @@ opsAfter (passed h c) l = written (programOf h (c .gates)) l
 
 -- ---- the questions; what is asked after one is `next`
 
--- "64(G+n) f64 and 32(G+n) u32 places"
-abbrev pub workFloats : ℕ → ℕ → ℕ
-workFloats g n = 64 * (g + n)
-
-abbrev pub workMarks : ℕ → ℕ → ℕ
-workMarks g n = 32 * (g + n)
-
 -- 9. Has work 64(G+n) f64 and 32(G+n) u32 places? w and u are there
 abbrev pub hasWork : ℕ → ℕ → ℕ → ℕ → Bool
 hasWork g n w u = cond (ltb w (workFloats g n)) Bool.false (cond (ltb u (workMarks g n)) Bool.false Bool.true)
@@ -120,9 +111,3 @@ compiledMarks t work marks ops = workAfter workMarks 0 (asked t work marks ops) 
 
 abbrev pub compiledOps : List ℕ → List Float → List ℕ → List Float → List Float
 compiledOps t work marks ops = opsAfter (asked t work marks ops) ops
-
--- ---- of the inner functions
-
--- a tape of g gates that passes 1 to 8, and exactly the work that 9 names
-abbrev pub Lent : List ℕ → Header → ℕ → List Float → List ℕ → Type 0
-Lent t h g w u = Gates t g (h .n) × (h .n ≤ maxQubits) × (g ≤ maxGates) × (length w ≡ workFloats g (h .n)) × (length u ≡ workMarks g (h .n))

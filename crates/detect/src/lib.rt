@@ -7,9 +7,12 @@ mod emit; // the operations
 mod tables; // order, path starts and modes as tables
 mod report; // the report and the answer
 mod program; // the report of an accepted tape
+mod lending; // question 9
 mod questions; // the questions 1 to 10
 
 pub use emit::emit_all;
+pub use lending::Lending;
+pub use lending::lend;
 pub use places::OP_PLACES;
 pub use program::detect;
 pub use questions::clear_floats;

@@ -1,20 +1,21 @@
 // The questions 1 to 10, the report and the operations.
 ghost use mathlib.Core.Path.{_≡_};
 ghost use mathlib.Core.Bool.{true, cond};
-ghost use Prim.Native.Nat.{_+_, _*_, _<_, _≤_};
+ghost use Prim.Native.Nat.{_≤_};
 ghost use lib.ListN.{length};
 ghost use Rattle.laws.specs.Slices.{filled};
-ghost use Rattle.laws.specs.Bounds.{maxQubits};
 ghost use Rattle.gate.specs.Complex.{f0};
-ghost use Rattle.tape.specs.Bounds.{maxGates};
-ghost use Rattle.fuse.specs.Slotted.{Gates};
+ghost use Rattle.work.specs.Sizes.{workFloats, workMarks};
 ghost use Rattle.detect.specs.Operation.{allPlaces, written};
 ghost use Rattle.detect.specs.Emit.{operationsIn};
 ghost use Rattle.detect.specs.Records.{Held};
 ghost use Rattle.detect.specs.Kept.{Kept};
-ghost use Rattle.detect.specs.Questions.{answerOf, workAfter, opsAfter, workFloats, workMarks, tenAsked, nineAsked, Lent};
+ghost use Rattle.detect.specs.Questions.{answerOf, workAfter, opsAfter, tenAsked, nineAsked};
+ghost use Rattle.detect.specs.Lending.{Read, Lent};
 ghost use Rattle.detect.specs.Questions.{compiled, compiledWork, compiledMarks, compiledOps};
 use crate::emit::emit_all;
+use crate::lending::Lending;
+use crate::lending::lend;
 use crate::places::OP_PLACES;
 use crate::program::detect;
 use crate::report::Answer;
@@ -93,7 +94,7 @@ fn compile_checked(
     marks: &mut [u32],
     ops: &mut [f64],
 ) -> Compiled
-    requires { ⌜ Gates (now tape) g (h .n) × (h .n ≤ maxQubits) × (g ≤ maxGates) ⌝ }
+    requires { ⌜ Read (now tape) h g ⌝ }
     ensures answer { λ r. ⌜ r ≡ answerOf (nineAsked (now (tape .entry)) h g (now (work .entry)) (now (marks .entry)) (now (ops .entry))) ⌝ }
     ensures work { λ _. ⌜ now (work .exit)
         ≡ workAfter workFloats f0 (nineAsked (now (tape .entry)) h g (now (work .entry)) (now (marks .entry)) (now (ops .entry))) (now (work .entry)) ⌝ }
@@ -102,23 +103,21 @@ fn compile_checked(
     ensures ops { λ _. ⌜ now (ops .exit)
         ≡ opsAfter (nineAsked (now (tape .entry)) h g (now (work .entry)) (now (marks .entry)) (now (ops .entry))) (now (ops .entry)) ⌝ }
 {
-    let n = h.n;
-    let floats = 64 * (g + n);
-    let numbers = 32 * (g + n);
-    if work.len() < floats {
-        return refuse(9, 0);
+    let r = lend(g, h.n, work.len(), marks.len());
+    match r {
+        Lending::Short => refuse(9, 0),
+        Lending::Parts {
+            floats,
+            marks: numbers,
+        } => compile_in(
+            tape,
+            h,
+            g,
+            &mut work[0..floats],
+            &mut marks[0..numbers],
+            ops,
+        ),
     }
-    if marks.len() < numbers {
-        return refuse(9, 0);
-    }
-    compile_in(
-        tape,
-        h,
-        g,
-        &mut work[0..floats],
-        &mut marks[0..numbers],
-        ops,
-    )
 }
 
 // The report and the operations of a tape. `work` and `marks` are lent to work in: from question 9 on the places that it names are zero afterwards,

@@ -19,7 +19,9 @@ use Rattle.gate.specs.declared.matrix.Mat2.{Mat2}
 use Rattle.gate.specs.declared.matrix.Mat4.{Mat4}
 use Rattle.gate.specs.Lent.{flat}
 use Rattle.gate.proofs.Stored.{length-row, length4}
-use Rattle.work.specs.Marks.{markAt, putMark}
+use Rattle.work.specs.Sizes.{recordMarks}
+use Rattle.work.specs.Rows.{recordAt, FloatsAt}
+use Rattle.work.specs.Marks.{markAt, putMark, MarksAt}
 use Rattle.work.specs.Columns.{kindColumn, aColumn, bColumn, cColumn, labColumn, goneKind, oneKind, twoKind, threeKind}
 use Rattle.work.proofs.Records.{put-size, put-here, put-column, put-record}
 use Rattle.tape.specs.Bounds.{headerLength}
@@ -45,7 +47,7 @@ module _ (us : List ℕ) (k kind a b c : ℕ) where
       ∙ put-size us k 0 kind
 
   -- another column stays
-  event-column : (j d : ℕ) → 3 < d → d < 32 → markAt (eventMarks us k kind a b c) j d ≡ markAt us j d
+  event-column : (j d : ℕ) → 3 < d → d < recordMarks → markAt (eventMarks us k kind a b c) j d ≡ markAt us j d
   unfolding eventMarks
   event-column j d l h =
       put-column (putMark (putMark (putMark us k 0 kind) k 1 a) k 2 b) k 3 c j d (omega arith) h (λ e. omega arith)
@@ -59,10 +61,10 @@ module _ (us : List ℕ) (k kind a b c : ℕ) where
       one-put (putMark (putMark (putMark us k 0 kind) k 1 a) k 2 b) 3 c (omega arith) ∙ one-put (putMark (putMark us k 0 kind) k 1 a) 2 b (omega arith)
       ∙ one-put (putMark us k 0 kind) 1 a (omega arith) ∙ one-put us 0 kind (omega arith)
     where
-      one-put : (ws : List ℕ) (e v : ℕ) → e < 32 → markAt (putMark ws k e v) j d ≡ markAt ws j d
+      one-put : (ws : List ℕ) (e v : ℕ) → e < recordMarks → markAt (putMark ws k e v) j d ≡ markAt ws j d
       one-put ws e v l = ⊎-elim (λ p. rw p (put-record ws k e v j n)) (λ p. put-column ws k e v j d l (omega arith) (λ q. p (sym q))) (eq-or-ne d e)
 
-  module _ (room : 32 * k + 32 ≤ length us) where
+  module _ (room : MarksAt us k) where
     event-kind : markAt (eventMarks us k kind a b c) k kindColumn ≡ kind
     unfolding eventMarks
     event-kind =
@@ -99,7 +101,7 @@ module _ (us : List ℕ) (k kind a b c : ℕ) where
 
 -- ---- the state with one event more
 
-module _ (xs ys : List Float) (us : List ℕ) (n k kind a b c : ℕ) (room : 32 * k + 32 ≤ length us) where
+module _ (xs ys : List Float) (us : List ℕ) (n k kind a b c : ℕ) (room : MarksAt us k) where
   abbrev vs : List ℕ
   vs = eventMarks us k kind a b c
 
@@ -135,7 +137,7 @@ module _ (us : List ℕ) (a b : ℕ) where
       put-column (putMark us a 4 (markAt us b 4)) b 4 (markAt us a 4) j d (omega arith) (omega arith) (λ e. omega arith)
       ∙ put-column us a 4 (markAt us b 4) j d (omega arith) (omega arith) (λ e. omega arith)
 
-  module _ (ra : 32 * a + 32 ≤ length us) (rb : 32 * b + 32 ≤ length us) where
+  module _ (ra : MarksAt us a) (rb : MarksAt us b) where
     abbrev lab : ℕ → ℕ
     lab j = markAt (swappedMarks us a b) j labColumn
 
@@ -170,7 +172,7 @@ module _ (us : List ℕ) (a b : ℕ) where
       swaps = swaps;
     }
 
-gone-event : (xs : List Float) (us : List ℕ) (k : ℕ) → 32 * k + 32 ≤ length us → eventAt xs (eventMarks us k goneKind 0 0 0) k ≡ gone
+gone-event : (xs : List Float) (us : List ℕ) (k : ℕ) → MarksAt us k → eventAt xs (eventMarks us k goneKind 0 0 0) k ≡ gone
 unfolding eventAt
 gone-event xs us k room = rw (event-kind us k 0 0 0 0 room)
 
@@ -183,7 +185,7 @@ swap-parts xs us n k swaps a b = refl
 
 -- ---- one gate, by its kind
 
-module _ (relabel : Bool) (xs : List Float) (us : List ℕ) (n k : ℕ) (floats : 64 * k + 64 ≤ length xs) (marks : 32 * k + 32 ≤ length us) (labels : Labels us n)
+module _ (relabel : Bool) (xs : List Float) (us : List ℕ) (n k : ℕ) (floats : FloatsAt xs k) (marks : MarksAt us k) (labels : Labels us n)
     (within : Within us 0 k n) where
   pub one-labelled : (code q : ℕ) (m : Mat2) → q < n
       → Labelling relabel (One code q m) xs (putMatrix2Of xs k m) us (eventMarks us k oneKind (markAt us q labColumn) 0 0) n k 0
@@ -192,7 +194,7 @@ module _ (relabel : Bool) (xs : List Float) (us : List ℕ) (n k : ℕ) (floats 
       let vs = eventMarks us k 1 s 0 0 in
       let kind = event-kind us k 1 s 0 0 marks in
       record {
-        size = length-row xs (64 * k) (flat m);
+        size = length-row xs (recordAt k) (flat m);
         marks = event-size us k 1 s 0 0;
         state = λ swaps.
             ap (labelledAt (putMatrix2Of xs k m) vs n (k + 1)) (add-zero swaps)
@@ -211,7 +213,7 @@ module _ (relabel : Bool) (xs : List Float) (us : List ℕ) (n k : ℕ) (floats 
       let vs = eventMarks us k 2 s t 0 in
       let kind = event-kind us k 2 s t 0 marks in
       record {
-        size = length4 xs (64 * k) m;
+        size = length4 xs (recordAt k) m;
         marks = event-size us k 2 s t 0;
         state = λ swaps.
             ap (labelledAt (putMatrix4Of xs k m) vs n (k + 1)) (add-zero swaps)
@@ -244,11 +246,11 @@ module _ (relabel : Bool) (xs : List Float) (us : List ℕ) (n k : ℕ) (floats 
         few = omega arith;
       }
 
-  pub swap-labelled : (code a b : ℕ) (m : Mat4) → a < n → b < n → 32 * a + 32 ≤ length us → 32 * b + 32 ≤ length us → (relabel && eqb code swapCode) ≡ true
+  pub swap-labelled : (code a b : ℕ) (m : Mat4) → a < n → b < n → MarksAt us a → MarksAt us b → (relabel && eqb code swapCode) ≡ true
       → Labelling relabel (Two code a b m) xs xs us (eventMarks (swappedMarks us a b) k goneKind 0 0 0) n k 1
   swap-labelled code a b m la lb ra rb h =
       let ws = swappedMarks us a b in
-      let room : 32 * k + 32 ≤ length ws = omega (arith, swapped-size us a b) in
+      let room : MarksAt ws k = omega (arith, swapped-size us a b) in
       record {
         size = refl;
         marks = event-size ws k 0 0 0 0 ∙ swapped-size us a b;
@@ -270,7 +272,7 @@ module _ (relabel : Bool) (xs : List Float) (us : List ℕ) (n k : ℕ) (floats 
 pub identity-none : (us : List ℕ) → Identity us us 0
 identity-none us = record { size = refl; each = λ q l. absurd (omega arith) }
 
-pub identity-more : (us vs : List ℕ) (q : ℕ) → 32 * q + 32 ≤ length vs → Identity us vs q → Identity us (putMark vs q labColumn q) (q + 1)
+pub identity-more : (us vs : List ℕ) (q : ℕ) → MarksAt vs q → Identity us vs q → Identity us (putMark vs q labColumn q) (q + 1)
 identity-more us vs q room i = record {
   size = put-size vs q 4 q ∙ i .size;
   each = below-more (λ x. markAt (putMark vs q labColumn q) x labColumn ≡ x) q

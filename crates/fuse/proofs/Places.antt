@@ -19,6 +19,8 @@ use Rattle.gate.specs.Lent.{flat}
 use Rattle.gate.specs.declared.matrix.Mat2.{Mat2}
 use Rattle.gate.specs.declared.matrix.Mat4.{Mat4}
 use Rattle.gate.proofs.Stored.{place-stays, mat2-alike, mat4-alike, mat2-back, place-stays4, mat4-back}
+use Rattle.work.specs.Sizes.{recordMarks}
+use Rattle.work.specs.Rows.{recordAt, FloatsAt, matrixFloats}
 use Rattle.work.specs.Marks.{markAt, putMark, Only}
 use Rattle.work.specs.Columns.{kindColumn, aColumn, bColumn, cColumn, goneKind, oneKind, twoKind, threeKind}
 use Rattle.work.proofs.Records.{put-here, put-column, put-record, only-same, only-trans, only-put}
@@ -102,13 +104,13 @@ module _ (xs : List Float) (us : List ℕ) (i : ℕ) where
 -- ---- the event stays where its marks and its matrix stay
 
 pub event-alike : (xs ys : List Float) (us vs : List ℕ) (i : ℕ) → markAt vs i 0 ≡ markAt us i 0 → markAt vs i 1 ≡ markAt us i 1 → markAt vs i 2 ≡ markAt us i 2 → markAt vs i 3 ≡ markAt us i 3
-    → ((q : ℕ) → 64 * i ≤ q → q < 64 * i + 32 → getD ys q nan ≡ getD xs q nan) → eventAt ys vs i ≡ eventAt xs us i
+    → ((q : ℕ) → recordAt i ≤ q → q < recordAt i + matrixFloats → getD ys q nan ≡ getD xs q nan) → eventAt ys vs i ≡ eventAt xs us i
 unfolding eventAt
 event-alike xs ys us vs i k a b c h =
-    rw (k, a, b, c, mat2-alike xs ys (64 * i) (λ q l g. h q l (omega arith)), mat4-alike xs ys (64 * i) h)
+    rw (k, a, b, c, mat2-alike xs ys (recordAt i) (λ q l g. h q l (omega arith)), mat4-alike xs ys (recordAt i) h)
 
 -- a mark of another column is put
-pub event-beside : (xs : List Float) (us : List ℕ) (j c v : ℕ) → 3 < c → c < 32 → (i : ℕ) → eventAt xs (putMark us j c v) i ≡ eventAt xs us i
+pub event-beside : (xs : List Float) (us : List ℕ) (j c v : ℕ) → 3 < c → c < recordMarks → (i : ℕ) → eventAt xs (putMark us j c v) i ≡ eventAt xs us i
 event-beside xs us j c v h l i =
     event-alike xs xs us (putMark us j c v) i
     (put-column us j c v i 0 l (omega arith) (λ e. omega arith)) (put-column us j c v i 1 l (omega arith) (λ e. omega arith))
@@ -116,7 +118,7 @@ event-beside xs us j c v h l i =
 
 -- ---- a kind set to 0
 
-pub kill-same : (xs : List Float) (us : List ℕ) (i : ℕ) → 32 * i < length us → eventAt xs (putMark us i kindColumn goneKind) i ≡ gone
+pub kill-same : (xs : List Float) (us : List ℕ) (i : ℕ) → recordMarks * i < length us → eventAt xs (putMark us i kindColumn goneKind) i ≡ gone
 unfolding eventAt
 kill-same xs us i h = rw (put-here us i 0 0 (omega arith))
 
@@ -132,30 +134,30 @@ kind-only us vs i v o = only-trans kinds us vs (putMark vs i 0 v) o (only-put ki
 -- ---- a matrix stored
 
 -- the places of another record
-apart : (t j : ℕ) → j ≢ t → (q : ℕ) → 64 * j ≤ q → q < 64 * j + 32 → (q < 64 * t) ⊎ (64 * t + 32 ≤ q)
+apart : (t j : ℕ) → j ≢ t → (q : ℕ) → recordAt j ≤ q → q < recordAt j + matrixFloats → (q < recordAt t) ⊎ (recordAt t + matrixFloats ≤ q)
 apart t j n q a b = by (lt-or-le j t) (lt-or-le t j)
   where
-    by : (j < t) ⊎ (t ≤ j) → (t < j) ⊎ (j ≤ t) → (q < 64 * t) ⊎ (64 * t + 32 ≤ q)
+    by : (j < t) ⊎ (t ≤ j) → (t < j) ⊎ (j ≤ t) → (q < recordAt t) ⊎ (recordAt t + matrixFloats ≤ q)
     by (inl h) _ = inl (omega arith)
     by (inr h) (inl g) = inr (omega arith)
     by (inr h) (inr g) = absurd (n (omega arith))
 
 module _ (xs : List Float) (us : List ℕ) (t : ℕ) where
   pub put4-other : (m : Mat4) (j : ℕ) → j ≢ t → eventAt (putMatrix4Of xs t m) us j ≡ eventAt xs us j
-  put4-other m j n = event-alike xs (putMatrix4Of xs t m) us us j refl refl refl refl (λ q a b. place-stays4 xs (64 * t) m q (apart t j n q a b))
+  put4-other m j n = event-alike xs (putMatrix4Of xs t m) us us j refl refl refl refl (λ q a b. place-stays4 xs (recordAt t) m q (apart t j n q a b))
 
-  pub put4-same : (m : Mat4) → 64 * t + 64 ≤ length xs → markAt us t kindColumn ≡ twoKind
+  pub put4-same : (m : Mat4) → FloatsAt xs t → markAt us t kindColumn ≡ twoKind
       → eventAt (putMatrix4Of xs t m) us t ≡ two (markAt us t aColumn) (markAt us t bColumn) m
-  put4-same m l h = two-at (putMatrix4Of xs t m) us t h ∙ ap (two (markAt us t 1) (markAt us t 2)) (mat4-back xs (64 * t) m (omega arith))
+  put4-same m l h = two-at (putMatrix4Of xs t m) us t h ∙ ap (two (markAt us t 1) (markAt us t 2)) (mat4-back xs (recordAt t) m (omega arith))
 
   pub put2-other : (m : Mat2) (j : ℕ) → j ≢ t → eventAt (putMatrix2Of xs t m) us j ≡ eventAt xs us j
   put2-other m j n =
       event-alike xs (putMatrix2Of xs t m) us us j refl refl refl refl
-      (λ q a b. place-stays xs (64 * t) (flat m) q (⊎-elim (λ h. inl h) (λ h. inr (omega arith)) (apart t j n q a b)))
+      (λ q a b. place-stays xs (recordAt t) (flat m) q (⊎-elim (λ h. inl h) (λ h. inr (omega arith)) (apart t j n q a b)))
 
-  pub put2-same : (m : Mat2) → 64 * t + 64 ≤ length xs → markAt us t kindColumn ≡ oneKind
+  pub put2-same : (m : Mat2) → FloatsAt xs t → markAt us t kindColumn ≡ oneKind
       → eventAt (putMatrix2Of xs t m) us t ≡ one (markAt us t aColumn) m
-  put2-same m l h = one-at (putMatrix2Of xs t m) us t h ∙ ap (one (markAt us t 1)) (mat2-back xs (64 * t) m (omega arith))
+  put2-same m l h = one-at (putMatrix2Of xs t m) us t h ∙ ap (one (markAt us t 1)) (mat2-back xs (recordAt t) m (omega arith))
 
 -- ---- the time product of the gates passed
 
@@ -191,7 +193,7 @@ module _ (us vs : List ℕ) (k j a b : ℕ) (c : Cleared us vs k j a b) (kj : k 
       ap (clear a b) (sym (c .above xs j (omega arith))) ∙ clear-is xs vs a b j ∙ ap (λ x. cond x gone (eventAt xs vs j)) h
       ∙ ap (cond t gone) (c .above xs j (omega arith))
 
-  pub cleared-hit : 32 * j < length vs → (oneAt vs a j || oneAt vs b j) ≡ true → Cleared us (putMark vs j kindColumn goneKind) k (j + 1) a b
+  pub cleared-hit : recordMarks * j < length vs → (oneAt vs a j || oneAt vs b j) ≡ true → Cleared us (putMark vs j kindColumn goneKind) k (j + 1) a b
   cleared-hit l h = record {
     only = kind-only us vs j 0 (c .only);
     inside = λ xs i p q.

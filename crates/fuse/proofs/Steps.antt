@@ -17,6 +17,8 @@ use Rattle.gate.specs.Lent.{flat}
 use Rattle.gate.specs.declared.matrix.Mat2.{Mat2}
 use Rattle.gate.specs.declared.matrix.Mat4.{Mat4}
 use Rattle.gate.proofs.Stored.{length-row, length4}
+use Rattle.work.specs.Sizes.{recordMarks}
+use Rattle.work.specs.Rows.{recordAt, FloatsAt}
 use Rattle.work.specs.Marks.{markAt, putMark}
 use Rattle.work.specs.Columns.{kindColumn, aColumn, bColumn, goneKind, oneKind, twoKind}
 use Rattle.work.proofs.Records.{only-same, only-trans}
@@ -131,7 +133,7 @@ module _ (xs : List Float) (us : List ℕ) (i : ℕ) (is : markAt us i kindColum
       grow-apart h k = stays (found ∙ rw (two-at xs us t two-t, h, k))
 
       -- it takes the gate, whose matrix in its orientation is m′
-      joins : (m′ : Mat4) (ys : List Float) (vs : List ℕ) → 64 * t + 64 ≤ length xs → Joined xs ys us vs t i c d m′
+      joins : (m′ : Mat4) (ys : List Float) (vs : List ℕ) → FloatsAt xs t → Joined xs ys us vs t i c d m′
           → place a b m (between e (t + 1) (gap q i)) (two c d (matrix4Of xs t) ∷ downTo e t) (downTo e i)
           ≡ joined c d m′ (matrix4Of xs t) (between e (t + 1) (gap q i)) (downTo e t)
           → Stepped fuseStep xs ys us vs i
@@ -148,7 +150,7 @@ module _ (xs : List Float) (us : List ℕ) (i : ℕ) (is : markAt us i kindColum
           let here : f t ≡ two c d (core g) = k .below ys t (omega arith) ∙ ap (λ zs. eventAt zs us t) ys-is ∙ put4-same xs us t (core g) l two-t in
           let low : (j : ℕ) → j < t → f j ≡ e j = λ j p. k .below ys j (omega arith) ∙ other j (λ z. omega arith) in
           record {
-            size = ap length ys-is ∙ length4 xs (64 * t) (core g);
+            size = ap length ys-is ∙ length4 xs (recordAt t) (core g);
             only = k .only;
             step = record {
               list = taken e f t g i (two c d (core g)) (map (clear c d) (between e (t + 1) g)) (sym sg) (k .here ys) new here low
@@ -157,16 +159,16 @@ module _ (xs : List Float) (us : List ℕ) (i : ℕ) (is : markAt us i kindColum
             };
           }
 
-      pub grow-straight : (ys : List Float) (vs : List ℕ) → 64 * t + 64 ≤ length xs → Joined xs ys us vs t i c d m → (eqb c a && eqb d b) ≡ true
+      pub grow-straight : (ys : List Float) (vs : List ℕ) → FloatsAt xs t → Joined xs ys us vs t i c d m → (eqb c a && eqb d b) ≡ true
           → Stepped fuseStep xs ys us vs i
       grow-straight ys vs l k h = joins m ys vs l k (rw h)
 
-      pub grow-turned : (ys : List Float) (vs : List ℕ) → 64 * t + 64 ≤ length xs → Joined xs ys us vs t i c d (mat4SwapQubitsOf m)
+      pub grow-turned : (ys : List Float) (vs : List ℕ) → FloatsAt xs t → Joined xs ys us vs t i c d (mat4SwapQubitsOf m)
           → (eqb c a && eqb d b) ≡ false → (eqb c b && eqb d a) ≡ true → Stepped fuseStep xs ys us vs i
       grow-turned ys vs l k n h = joins (mat4SwapQubitsOf m) ys vs l k (rw (n, h))
 
 -- what `join` leaves, from what its calls say
-pub joined-is : (xs ys : List Float) (us vs : List ℕ) (t i c d : ℕ) (m : Mat4) {x y : Mat2} {z k p o : Mat4} → t < i → 32 * i < length us
+pub joined-is : (xs ys : List Float) (us vs : List ℕ) (t i c d : ℕ) (m : Mat4) {x y : Mat2} {z k p o : Mat4} → t < i → recordMarks * i < length us
     → x ≡ product c (between (eventAt xs us) (t + 1) (i - (t + 1))) → y ≡ product d (between (eventAt xs us) (t + 1) (i - (t + 1))) → z ≡ matrix4Of xs t
     → k ≡ kronOf x y → p ≡ mul4Of k z → o ≡ mul4Of m p → ys ≡ putMatrix4Of xs t o → Cleared us vs (t + 1) i c d
     → Joined xs ys us (putMark vs i kindColumn goneKind) t i c d m
@@ -223,7 +225,7 @@ module _ (xs : List Float) (us : List ℕ) (i : ℕ) (is : markAt us i kindColum
       pub press-apart : (diagonal2Of (matrix2Of xs t) && diagonal2Of m₁) ≡ false → Stepped compressStep xs xs us us i
       press-apart h = stays₁ (found₁ ∙ rw (one-at xs us t one-t, h))
 
-      pub press-takes : 64 * t + 64 ≤ length xs → 32 * i < length us → (diagonal2Of (matrix2Of xs t) && diagonal2Of m₁) ≡ true
+      pub press-takes : FloatsAt xs t → recordMarks * i < length us → (diagonal2Of (matrix2Of xs t) && diagonal2Of m₁) ≡ true
           → Stepped compressStep xs (putMatrix2Of xs t (mul2Of m₁ (matrix2Of xs t))) us (putMark us i kindColumn goneKind) i
       press-takes l room h =
           let g = gap q₁ i in
@@ -236,7 +238,7 @@ module _ (xs : List Float) (us : List ℕ) (i : ℕ) (is : markAt us i kindColum
           let new : between f (t + 1) g ≡ between e₁ (t + 1) g = between-same e₁ f (t + 1) g (λ j p r. other j (λ z. omega arith) (λ z. omega arith)) in
           let here : f t ≡ one v x = kind-other ys us i 0 t (λ z. omega arith) ∙ put2-same xs us t x l one-t in
           record {
-            size = length-row xs (64 * t) (flat x);
+            size = length-row xs (recordAt t) (flat x);
             only = kind-only us us i 0 (only-same kinds us);
             step = record {
               list = taken e₁ f t g i (one v x) (between e₁ (t + 1) g) (sym sg) (kill-same ys us i room) new here (λ j p. other j (λ z. omega arith) (λ z. omega arith))

@@ -1,6 +1,5 @@
 -- Where the events stand in the lent work. Gate i has record i: the floats, of which the first are its matrix, and the marks, its kind and its slots.
--- What the code promises is said of the event that a record holds, `eventAt`. Assumes nothing.
--- Only inner functions rest on this.
+-- What the code promises is said of the event that a record holds, `eventAt`. Assumes nothing. Only inner functions rest on this.
 use mathlib.Core.Path.{_≡_}
 use mathlib.Core.Bool.{Bool, false, cond, _||_}
 use mathlib.Core.List.{List}

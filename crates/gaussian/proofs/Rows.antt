@@ -19,7 +19,8 @@ use Rattle.detect.specs.declared.report.Answer.{Answer}
 use Rattle.detect.specs.declared.report.Compiled.{Compiled}
 use Rattle.detect.specs.Report.{freeOf, reportOf}
 use Rattle.detect.specs.Compile.{itemsOf, modeOfWire, tapeCounts, reportedOf, programOf}
-use Rattle.detect.specs.Questions.{refusal, done, answerOf, workFloats, workMarks, hasWork, askedFrom}
+use Rattle.work.specs.Sizes.{workFloats, workMarks}
+use Rattle.detect.specs.Questions.{refusal, done, answerOf, hasWork, askedFrom}
 use Rattle.detect.proofs.Sums.{counts-add}
 use Rattle.detect.proofs.Reports.{operations-told}
 use Rattle.local.specs.Bounds.{statePlaces}

@@ -12,7 +12,8 @@ use Rattle.tape.specs.declared.header.Header.{Header}
 use Rattle.detect.specs.declared.report.Report.{Report}
 use Rattle.detect.specs.declared.report.Compiled.{Compiled}
 use Rattle.detect.specs.Compile.{reportedOf, programOf}
-use Rattle.detect.specs.Questions.{Asked, early, late, passed, answerOf, workAfter, opsAfter, workFloats, workMarks, askedNine, askedFrom, opsLack}
+use Rattle.work.specs.Sizes.{workFloats, workMarks}
+use Rattle.detect.specs.Questions.{Asked, early, late, passed, answerOf, workAfter, opsAfter, askedNine, askedFrom, opsLack}
 use Rattle.local.specs.Bounds.{statePlaces}
 use Rattle.local.specs.State.{stored}
 use Rattle.state.specs.Bounds.{dimOf}

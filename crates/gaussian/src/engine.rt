@@ -1,13 +1,11 @@
 // A tape run: the questions in their order, the operations, the state.
 ghost use mathlib.Core.Path.{_≡_};
-ghost use Prim.Native.Nat.{_≤_};
 ghost use lib.ListN.{length};
 ghost use Rattle.laws.specs.Slices.{filled};
-ghost use Rattle.laws.specs.Bounds.{maxQubits};
 ghost use Rattle.gate.specs.Complex.{f0};
-ghost use Rattle.tape.specs.Bounds.{maxGates};
-ghost use Rattle.fuse.specs.Slotted.{Gates};
-ghost use Rattle.detect.specs.Questions.{answerOf, workAfter, opsAfter, workFloats, workMarks, Lent};
+ghost use Rattle.work.specs.Sizes.{workFloats, workMarks};
+ghost use Rattle.detect.specs.Questions.{answerOf, workAfter, opsAfter};
+ghost use Rattle.detect.specs.Lending.{Read, Lent};
 ghost use Rattle.claim.specs.Queries.{answer};
 ghost use Rattle.gaussian.specs.Run.{stateAfter, reportAsked, workAsked};
 ghost use Rattle.gaussian.specs.Run.{ran, ranWork, ranMarks, ranOps, ranState};
@@ -15,10 +13,12 @@ ghost use Rattle.gaussian.specs.Claim.{leftBy, RegisterClaim};
 use crate::questions::verdict;
 use detect::Answer;
 use detect::Compiled;
+use detect::Lending;
 use detect::clear_floats;
 use detect::clear_marks;
 use detect::detect;
 use detect::emit_all;
+use detect::lend;
 use detect::refuse;
 use evolve::evolve;
 use tape::Checked;
@@ -70,7 +70,7 @@ fn run_checked(
     ops: &mut [f64],
     state: &mut [f64],
 ) -> Compiled
-    requires { ⌜ Gates (now tape) g (h .n) × (h .n ≤ maxQubits) × (g ≤ maxGates) ⌝ }
+    requires { ⌜ Read (now tape) h g ⌝ }
     ensures answer { λ r. ⌜ r ≡ answerOf
         (workAsked (now (tape .entry)) h g (now (work .entry)) (now (marks .entry)) (now (ops .entry)) (now (state .entry))) ⌝ }
     ensures work { λ _. ⌜ now (work .exit) ≡ workAfter workFloats f0
@@ -82,24 +82,22 @@ fn run_checked(
     ensures state { λ _. ⌜ now (state .exit) ≡ stateAfter
         (workAsked (now (tape .entry)) h g (now (work .entry)) (now (marks .entry)) (now (ops .entry)) (now (state .entry))) (now (state .entry)) ⌝ }
 {
-    let n = h.n;
-    let floats = 64 * (g + n);
-    let numbers = 32 * (g + n);
-    if work.len() < floats {
-        return refuse(9, 0);
+    let r = lend(g, h.n, work.len(), marks.len());
+    match r {
+        Lending::Short => refuse(9, 0),
+        Lending::Parts {
+            floats,
+            marks: numbers,
+        } => run_in(
+            tape,
+            h,
+            g,
+            &mut work[0..floats],
+            &mut marks[0..numbers],
+            ops,
+            state,
+        ),
     }
-    if marks.len() < numbers {
-        return refuse(9, 0);
-    }
-    run_in(
-        tape,
-        h,
-        g,
-        &mut work[0..floats],
-        &mut marks[0..numbers],
-        ops,
-        state,
-    )
 }
 
 // A tape run: its report, its operations, and the state that they make of the vacuum. `work` and `marks` are lent to work in: from question 9 on the places

@@ -13,6 +13,7 @@ use borrow.Author.Tests.{eq-eqb, ne-eqb, eqb-true}
 use Rattle.laws.specs.Views.{seek}
 use Rattle.laws.proofs.Views.{seek-hit, seek-miss, seek-none, seek-gap, seek-fails, seek-passes}
 use Rattle.laws.proofs.Cases.{eq-or-ne}
+use Rattle.work.specs.Sizes.{recordMarks}
 use Rattle.work.specs.Marks.{markAt, putMark, Only, Records}
 use Rattle.work.specs.Columns.{headColumn, nextColumn}
 use Rattle.work.proofs.Records.{put-here, put-record, only-same, only-trans, only-put}
@@ -142,7 +143,7 @@ module _ (us : List ℕ) (i : ℕ) where
   pub grown-away : (j : ℕ) → j ≢ i → edgeAt (putHeavier us i) j ≡ edgeAt us j
   grown-away j ne = edge-of (away 12 (omega arith)) (away 13 (omega arith)) (away 14 (omega arith))
     where
-      away : (d : ℕ) → d < 32 → markAt (putHeavier us i) j d ≡ markAt us j d
+      away : (d : ℕ) → d < recordMarks → markAt (putHeavier us i) j d ≡ markAt us j d
       away d h = put-away us i 14 (edgeAt us i .weight + 1) j d (omega arith) h ne
 
   pub grown-tally : Only tallyColumns us (putHeavier us i)

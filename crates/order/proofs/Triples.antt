@@ -10,6 +10,7 @@ use lib.Dec.{leb}
 use lib.ListN.{length}
 use borrow.Author.Tests.{le-leb, leb-true}
 use Rattle.laws.proofs.Cases.{eq-or-ne}
+use Rattle.work.specs.Sizes.{recordMarks}
 use Rattle.work.specs.Marks.{markAt, putMark, Only, Records}
 use Rattle.work.proofs.Records.{put-size, put-here, put-column, put-record, only-trans, only-put, only-wider}
 use Rattle.order.specs.declared.edges.Edge.{Edge}
@@ -41,21 +42,21 @@ only-columns a b x y us vs h g o = only-wider (columns a b) (columns x y) us vs 
 -- ---- three marks
 
 -- another record stays
-pub put-away : (us : List ℕ) (i c v j d : ℕ) → c < 32 → d < 32 → j ≢ i → markAt (putMark us i c v) j d ≡ markAt us j d
+pub put-away : (us : List ℕ) (i c v j d : ℕ) → c < recordMarks → d < recordMarks → j ≢ i → markAt (putMark us i c v) j d ≡ markAt us j d
 put-away us i c v j d hc hd ne = by (eq-or-ne c d)
   where
     by : (c ≡ d) ⊎ (c ≢ d) → markAt (putMark us i c v) j d ≡ markAt us j d
     by (inl e) = rw (sym e) (put-record us i c v j ne)
     by (inr e) = put-column us i c v j d hc hd e
 
-module _ (a b c : ℕ) (ha : a < 32) (hb : b < 32) (hc : c < 32) (us : List ℕ) (i x y z : ℕ) where
+module _ (a b c : ℕ) (ha : a < recordMarks) (hb : b < recordMarks) (hc : c < recordMarks) (us : List ℕ) (i x y z : ℕ) where
   one : List ℕ
   one = putMark us i a x
 
   two : List ℕ
   two = putMark one i b y
 
-  three-away : (j d : ℕ) → d < 32 → j ≢ i → markAt (putThree a b c us i x y z) j d ≡ markAt us j d
+  three-away : (j d : ℕ) → d < recordMarks → j ≢ i → markAt (putThree a b c us i x y z) j d ≡ markAt us j d
   unfolding one two
   three-away j d hd ne = put-away two i c z j d hc hd ne ∙ put-away one i b y j d hb hd ne ∙ put-away us i a x j d ha hd ne
 
@@ -98,7 +99,7 @@ module _ (us : List ℕ) (i : ℕ) (e : Edge) where
   pub edge-away : (j : ℕ) → j ≢ i → edgeAt (putEdge us i e) j ≡ edgeAt us j
   edge-away j ne = edge-of (away 12 (omega arith)) (away 13 (omega arith)) (away 14 (omega arith))
     where
-      away : (d : ℕ) → d < 32 → markAt (putEdge us i e) j d ≡ markAt us j d
+      away : (d : ℕ) → d < recordMarks → markAt (putEdge us i e) j d ≡ markAt us j d
       away d h = three-away 12 13 14 (omega arith) (omega arith) (omega arith) us i (e .lo) (e .hi) (e .weight) j d h ne
 
   pub edge-only : Only edgeColumns us (putEdge us i e)
@@ -115,7 +116,7 @@ module _ (us : List ℕ) (w : ℕ) (k : Key) where
   pub key-away : (v : ℕ) → v ≢ w → keyAt (putKey us w k) v ≡ keyAt us v
   key-away v ne = key-of (away 8 (omega arith)) (away 9 (omega arith)) (away 10 (omega arith))
     where
-      away : (d : ℕ) → d < 32 → markAt (putKey us w k) v d ≡ markAt us v d
+      away : (d : ℕ) → d < recordMarks → markAt (putKey us w k) v d ≡ markAt us v d
       away d h = three-away 8 9 10 (omega arith) (omega arith) (omega arith) us w (k .lo) (k .hi) (k .at) v d h ne
 
   pub key-only : Only keyColumns us (putKey us w k)

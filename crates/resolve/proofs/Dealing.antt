@@ -12,6 +12,8 @@ use Rattle.laws.proofs.Views.{getD-listOf, up-head, up-same}
 use Rattle.gate.specs.Matrix.{mul4Of, kronOf}
 use Rattle.gate.specs.declared.matrix.Mat4.{Mat4}
 use Rattle.gate.proofs.Stored.{mat2-alike}
+use Rattle.work.specs.Sizes.{recordMarks}
+use Rattle.work.specs.Rows.{recordAt, floatPlace, rowFloats, firstTail, secondTail}
 use Rattle.work.specs.Marks.{markAt, putMark}
 use Rattle.work.specs.Columns.{kindColumn, aColumn, bColumn, cColumn, labColumn, goneKind, oneKind, twoKind, threeKind}
 use Rattle.work.proofs.Records.{put-here}
@@ -34,7 +36,7 @@ rest-is : (xs : List Float) (us : List ℕ) (g n i s : ℕ) (t : Tally) → s < 
 unfolding resolvedAt
 rest-is xs us g n i s t l = getD-listOf n (restAt xs us g) s none l
 
-gone-item : (xs : List Float) (us : List ℕ) (i : ℕ) → 32 * i < length us → itemAt xs (putMark us i kindColumn goneKind) i ≡ []
+gone-item : (xs : List Float) (us : List ℕ) (i : ℕ) → recordMarks * i < length us → itemAt xs (putMark us i kindColumn goneKind) i ≡ []
 unfolding itemAt
 gone-item xs us i h = rw (put-here us i 0 0 (omega arith))
 
@@ -83,16 +85,16 @@ gone-dealt relabel tol xs us g n i t room h w p q r =
 -- ---- a block
 
 -- the rows of the first tail are not those of the second
-first-stays : (xs ys : List Float) (t : ℕ) → RowOnly 48 xs ys → firstRow ys t ≡ firstRow xs t
-first-stays xs ys t o = mat2-alike xs ys (64 * t + 40) (λ q a b. at q a b)
+first-stays : (xs ys : List Float) (t : ℕ) → RowOnly secondTail xs ys → firstRow ys t ≡ firstRow xs t
+first-stays xs ys t o = mat2-alike xs ys (floatPlace t firstTail) (λ q a b. at q a b)
   where
-    at : (q : ℕ) → 64 * t + 40 ≤ q → q < 64 * t + 40 + 8 → getD ys q nan ≡ getD xs q nan
+    at : (q : ℕ) → floatPlace t firstTail ≤ q → q < floatPlace t firstTail + rowFloats → getD ys q nan ≡ getD xs q nan
     at q a b =
-        let e : q ≡ 64 * t + (q - 64 * t) = omega arith in
-        ap (λ p. getD ys p nan) e ∙ o .same t (q - 64 * t) (omega arith) (inl (omega arith)) ∙ ap (λ p. getD xs p nan) (sym e)
+        let e : q ≡ recordAt t + (q - recordAt t) = omega arith in
+        ap (λ p. getD ys p nan) e ∙ o .same t (q - recordAt t) (omega arith) (inl (omega arith)) ∙ ap (λ p. getD xs p nan) (sym e)
 
 module _ (relabel : Bool) (tol : Float) (xs xs₁ xs₂ ys : List Float) (us vs : List ℕ) (g n i la lb : ℕ) (t t′ : Tally)
-    (p : Prefixes xs xs₁ us (i + 1) g (markAt us i aColumn) 40 la) (q : Prefixes xs₁ xs₂ us (i + 1) g (markAt us i bColumn) 48 lb)
+    (p : Prefixes xs xs₁ us (i + 1) g (markAt us i aColumn) firstTail la) (q : Prefixes xs₁ xs₂ us (i + 1) g (markAt us i bColumn) secondTail lb)
     (sa : markAt us i aColumn < n) (sb : markAt us i bColumn < n) (two-i : markAt us i kindColumn ≡ twoKind) where
   abbrev a : ℕ
   a = markAt us i aColumn
@@ -107,13 +109,13 @@ module _ (relabel : Bool) (tol : Float) (xs xs₁ xs₂ ys : List Float) (us vs 
   r = resolvedAt xs us g n i t
 
   same-event : (j : ℕ) → eventAt xs₂ us j ≡ eventAt xs us j
-  same-event j = row-only-event 48 xs₁ xs₂ (omega arith) (q .only) us j ∙ row-only-event 40 xs xs₁ (omega arith) (p .only) us j
+  same-event j = row-only-event secondTail xs₁ xs₂ (omega arith) (q .only) us j ∙ row-only-event firstTail xs xs₁ (omega arith) (p .only) us j
 
   same-state : resolvedAt xs₂ us g n i t ≡ r
-  same-state = scratch-state 48 xs₁ xs₂ us g n i t (omega arith) (q .only) ∙ scratch-state 40 xs xs₁ us g n i t (omega arith) (p .only)
+  same-state = scratch-state secondTail xs₁ xs₂ us g n i t (omega arith) (q .only) ∙ scratch-state firstTail xs xs₁ us g n i t (omega arith) (p .only)
 
   second-tail : ahead b (todo xs₁ us (i + 1) g) ≡ ahead b es
-  second-tail = ap (ahead b) (up-same (eventAt xs us) (eventAt xs₁ us) (i + 1) (g - (i + 1)) (λ j x y. row-only-event 40 xs xs₁ (omega arith) (p .only) us j))
+  second-tail = ap (ahead b) (up-same (eventAt xs us) (eventAt xs₁ us) (i + 1) (g - (i + 1)) (λ j x y. row-only-event firstTail xs xs₁ (omega arith) (p .only) us j))
 
   lb-is : lb ≡ length (ahead b es)
   lb-is = q .long ∙ ap length second-tail

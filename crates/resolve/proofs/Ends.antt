@@ -12,7 +12,8 @@ use lib.Ieee.{Float}
 use borrow.Author.Count.{below-more}
 use borrow.Author.Tests.{ne-eqb}
 use Rattle.laws.proofs.Views.{getD-listOf}
-use Rattle.work.specs.Marks.{markAt, putMark}
+use Rattle.work.specs.Sizes.{recordMarks}
+use Rattle.work.specs.Marks.{markAt, putMark, MarksAt}
 use Rattle.work.specs.Columns.{kindColumn, aColumn, cColumn, labColumn, contentColumn, goneKind, oneItem}
 use Rattle.work.proofs.Records.{put-size, put-here, put-column, put-record}
 use Rattle.fuse.proofs.Places.{event-alike}
@@ -52,7 +53,7 @@ module _ (us vs : List ℕ) (g s : ℕ) (b : Beginning us vs g s) where
   column : (j d : ℕ) → d < 4 → markAt ws j d ≡ markAt (emptiedMarks vs g s 0) j d
   column j d l = put-column (emptiedMarks vs g s 0) s 5 s j d (omega arith) (omega arith) (λ e. omega arith)
 
-  pub begin-more : 32 * (g + s) + 32 ≤ length vs → Beginning us ws g (s + 1)
+  pub begin-more : MarksAt vs (g + s) → Beginning us ws g (s + 1)
   begin-more room =
       let o = emptied-marks vs g s 0 in
       record {
@@ -96,14 +97,14 @@ begin-end xs us vs g n s h b = record {
 -- ---- after the last
 
 -- the item of a slot's record with a remainder, and without
-put-item : (xs : List Float) (us vs : List ℕ) (g s wire : ℕ) → 32 * (g + s) + 32 ≤ length vs → markAt vs (g + s) kindColumn ≡ oneItem
+put-item : (xs : List Float) (us vs : List ℕ) (g s wire : ℕ) → MarksAt vs (g + s) → markAt vs (g + s) kindColumn ≡ oneItem
     → markAt us (g + s) kindColumn ≡ oneItem → wire ≡ markAt us s contentColumn
     → itemAt xs (putMark vs (g + s) aColumn wire) (g + s) ≡ restItem (markAt us s contentColumn) (restAt xs us g s)
 unfolding itemAt restAt
 put-item xs us vs g s wire room k k₀ e =
     rw (put-column vs (g + s) 1 wire (g + s) 0 (omega arith) (omega arith) (λ e. omega arith), k, put-here vs (g + s) 1 wire (omega arith), k₀, e)
 
-no-item : (xs : List Float) (us vs : List ℕ) (g s : ℕ) → 32 * (g + s) + 32 ≤ length vs → markAt us (g + s) kindColumn ≢ oneItem
+no-item : (xs : List Float) (us vs : List ℕ) (g s : ℕ) → MarksAt vs (g + s) → markAt us (g + s) kindColumn ≢ oneItem
     → itemAt xs (putMark vs (g + s) kindColumn goneKind) (g + s) ≡ restItem (markAt us s contentColumn) (restAt xs us g s)
 unfolding itemAt restAt
 no-item xs us vs g s room k = rw (put-here vs (g + s) 0 0 (omega arith), ne-eqb _ _ k)
@@ -122,9 +123,9 @@ pub record Finishing (xs : List Float) (us vs : List ℕ) (g s : ℕ) : Type 0 w
   pub size : length vs ≡ length us
   pub wires : (j : ℕ) → markAt vs j contentColumn ≡ markAt us j contentColumn
   pub lab : (j : ℕ) → markAt vs j labColumn ≡ markAt us j labColumn
-  pub gates : (j d : ℕ) → j < g → d < 32 → markAt vs j d ≡ markAt us j d
+  pub gates : (j d : ℕ) → j < g → d < recordMarks → markAt vs j d ≡ markAt us j d
   pub made : (x : ℕ) → x < s → itemAt xs vs (g + x) ≡ restItem (markAt us x contentColumn) (restAt xs us g x)
-  pub left : (x d : ℕ) → s ≤ x → d < 32 → markAt vs (g + x) d ≡ markAt us (g + x) d
+  pub left : (x d : ℕ) → s ≤ x → d < recordMarks → markAt vs (g + x) d ≡ markAt us (g + x) d
 
 pub finish-none : (xs : List Float) (us : List ℕ) (g : ℕ) → Finishing xs us us g 0
 finish-none xs us g = record {
@@ -153,12 +154,12 @@ module _ (xs : List Float) (us vs : List ℕ) (g s : ℕ) (f : Finishing xs us v
   }
 
   -- there is a remainder
-  pub finish-item : (wire : ℕ) → 32 * (g + s) + 32 ≤ length vs → markAt vs (g + s) kindColumn ≡ oneItem → wire ≡ markAt vs s contentColumn
+  pub finish-item : (wire : ℕ) → MarksAt vs (g + s) → markAt vs (g + s) kindColumn ≡ oneItem → wire ≡ markAt vs s contentColumn
       → Finishing xs us (putMark vs (g + s) aColumn wire) g (s + 1)
   finish-item wire room k e = more (putMark vs (g + s) 1 wire) (marks-put (g + s) vs vs 1 wire (omega arith) (marks-same (g + s) vs)) (put-item xs us vs g s wire room k (sym (f .left s 0 (omega arith) (omega arith)) ∙ k) (e ∙ f .wires s))
 
   -- there is none
-  pub finish-gone : 32 * (g + s) + 32 ≤ length vs → markAt vs (g + s) kindColumn ≢ oneItem → Finishing xs us (putMark vs (g + s) kindColumn goneKind) g (s + 1)
+  pub finish-gone : MarksAt vs (g + s) → markAt vs (g + s) kindColumn ≢ oneItem → Finishing xs us (putMark vs (g + s) kindColumn goneKind) g (s + 1)
   finish-gone room k =
       more (putMark vs (g + s) 0 0) (marks-put (g + s) vs vs 0 0 (omega arith) (marks-same (g + s) vs))
       (no-item xs us vs g s room (λ e. k (f .left s 0 (omega arith) (omega arith) ∙ e)))

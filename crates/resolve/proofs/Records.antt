@@ -14,6 +14,8 @@ use Rattle.gate.specs.Lent.{flat}
 use Rattle.gate.specs.declared.matrix.Mat2.{Mat2}
 use Rattle.gate.specs.declared.matrix.Mat4.{Mat4}
 use Rattle.gate.proofs.Stored.{length-row, place-stays, length4, place-stays4, mat2-alike, mat4-alike}
+use Rattle.work.specs.Sizes.{recordFloats, recordMarks}
+use Rattle.work.specs.Rows.{recordAt, floatPlace, rowFloats, residualPlace, itemEnd}
 use Rattle.work.specs.Marks.{markAt, putMark}
 use Rattle.work.specs.Columns.{kindColumn, aColumn, bColumn, labColumn, contentColumn}
 use Rattle.work.proofs.Records.{put-size, put-column, put-record}
@@ -38,13 +40,13 @@ newest-more e n = rw (add-one n)
 -- only record p has changed, and in no record the slot and the wire
 pub record MarksOf (p : ℕ) (us vs : List ℕ) : Type 0 where
   pub size : length vs ≡ length us
-  pub away : (j d : ℕ) → j ≢ p → d < 32 → markAt vs j d ≡ markAt us j d
+  pub away : (j d : ℕ) → j ≢ p → d < recordMarks → markAt vs j d ≡ markAt us j d
   pub lab : (j : ℕ) → markAt vs j labColumn ≡ markAt us j labColumn
   pub wire : (j : ℕ) → markAt vs j contentColumn ≡ markAt us j contentColumn
 
 pub record FloatsOf (p : ℕ) (xs ys : List Float) : Type 0 where
   pub size : length ys ≡ length xs
-  pub away : (q : ℕ) → (q < 64 * p) ⊎ (64 * p + 64 ≤ q) → getD ys q nan ≡ getD xs q nan
+  pub away : (q : ℕ) → (q < recordAt p) ⊎ (floatPlace p recordFloats ≤ q) → getD ys q nan ≡ getD xs q nan
 
 module _ (p : ℕ) where
   pub marks-same : (us : List ℕ) → MarksOf p us us
@@ -63,27 +65,27 @@ module _ (p : ℕ) where
 
   pub floats-put2 : (xs : List Float) (m : Mat2) → FloatsOf p xs (putMatrix2Of xs p m)
   floats-put2 xs m = record {
-    size = length-row xs (64 * p) (flat m);
-    away = λ q a. place-stays xs (64 * p) (flat m) q (⊎-elim (λ h. inl h) (λ h. inr (omega arith)) a);
+    size = length-row xs (recordAt p) (flat m);
+    away = λ q a. place-stays xs (recordAt p) (flat m) q (⊎-elim (λ h. inl h) (λ h. inr (omega arith)) a);
   }
 
   pub floats-put4 : (xs : List Float) (m : Mat4) → FloatsOf p xs (putMatrix4Of xs p m)
   floats-put4 xs m = record {
-    size = length4 xs (64 * p) m;
-    away = λ q a. place-stays4 xs (64 * p) m q (⊎-elim (λ h. inl h) (λ h. inr (omega arith)) a);
+    size = length4 xs (recordAt p) m;
+    away = λ q a. place-stays4 xs (recordAt p) m q (⊎-elim (λ h. inl h) (λ h. inr (omega arith)) a);
   }
 
-  pub floats-set : (xs ys : List Float) (k : ℕ) (v : Float) → k < 64 → FloatsOf p xs ys → FloatsOf p xs (set ys (64 * p + k) v)
+  pub floats-set : (xs ys : List Float) (k : ℕ) (v : Float) → k < recordFloats → FloatsOf p xs ys → FloatsOf p xs (set ys (floatPlace p k) v)
   floats-set xs ys k v h o = record {
-    size = length-set ys (64 * p + k) v ∙ o .size;
-    away = λ q a. getD-set-other ys (64 * p + k) q v nan (λ e. ⊎-elim (λ l. omega arith) (λ l. omega arith) a) ∙ o .away q a;
+    size = length-set ys (floatPlace p k) v ∙ o .size;
+    away = λ q a. getD-set-other ys (floatPlace p k) q v nan (λ e. ⊎-elim (λ l. omega arith) (λ l. omega arith) a) ∙ o .away q a;
   }
 
 -- a place of another record
-elsewhere : (p j q : ℕ) → j ≢ p → 64 * j ≤ q → q < 64 * j + 64 → (q < 64 * p) ⊎ (64 * p + 64 ≤ q)
+elsewhere : (p j q : ℕ) → j ≢ p → recordAt j ≤ q → q < floatPlace j recordFloats → (q < recordAt p) ⊎ (floatPlace p recordFloats ≤ q)
 elsewhere p j q n a b = by (lt-or-le j p) (lt-or-le p j)
   where
-    by : (j < p) ⊎ (p ≤ j) → (p < j) ⊎ (j ≤ p) → (q < 64 * p) ⊎ (64 * p + 64 ≤ q)
+    by : (j < p) ⊎ (p ≤ j) → (p < j) ⊎ (j ≤ p) → (q < recordAt p) ⊎ (floatPlace p recordFloats ≤ q)
     by (inl h) _ = inl (omega arith)
     by (inr h) (inl g) = inr (omega arith)
     by (inr h) (inr g) = absurd (n (omega arith))
@@ -91,15 +93,15 @@ elsewhere p j q n a b = by (lt-or-le j p) (lt-or-le p j)
 -- ---- what is read of another record
 
 pub item-alike : (xs ys : List Float) (us vs : List ℕ) (i : ℕ) → markAt vs i kindColumn ≡ markAt us i kindColumn → markAt vs i aColumn ≡ markAt us i aColumn
-    → markAt vs i bColumn ≡ markAt us i bColumn → ((q : ℕ) → 64 * i ≤ q → q < 64 * i + 33 → getD ys q nan ≡ getD xs q nan) → itemAt ys vs i ≡ itemAt xs us i
+    → markAt vs i bColumn ≡ markAt us i bColumn → ((q : ℕ) → recordAt i ≤ q → q < floatPlace i itemEnd → getD ys q nan ≡ getD xs q nan) → itemAt ys vs i ≡ itemAt xs us i
 unfolding itemAt
 item-alike xs ys us vs i k a b h =
-    rw (k, a, b, mat2-alike xs ys (64 * i) (λ q l g. h q l (omega arith)), mat4-alike xs ys (64 * i) (λ q l g. h q l (omega arith)), h (64 * i + 32) (omega arith) (omega arith))
+    rw (k, a, b, mat2-alike xs ys (recordAt i) (λ q l g. h q l (omega arith)), mat4-alike xs ys (recordAt i) (λ q l g. h q l (omega arith)), h (floatPlace i residualPlace) (omega arith) (omega arith))
 
 pub rest-alike : (xs ys : List Float) (us vs : List ℕ) (g s : ℕ) → markAt vs (g + s) kindColumn ≡ markAt us (g + s) kindColumn
-    → ((q : ℕ) → 64 * (g + s) ≤ q → q < 64 * (g + s) + 8 → getD ys q nan ≡ getD xs q nan) → restAt ys vs g s ≡ restAt xs us g s
+    → ((q : ℕ) → recordAt (g + s) ≤ q → q < floatPlace (g + s) rowFloats → getD ys q nan ≡ getD xs q nan) → restAt ys vs g s ≡ restAt xs us g s
 unfolding restAt
-rest-alike xs ys us vs g s k h = rw (k, mat2-alike xs ys (64 * (g + s)) h)
+rest-alike xs ys us vs g s k h = rw (k, mat2-alike xs ys (recordAt (g + s)) h)
 
 module _ (p : ℕ) (xs ys : List Float) (us vs : List ℕ) (f : FloatsOf p xs ys) (m : MarksOf p us vs) where
   pub other-event : (j : ℕ) → j ≢ p → eventAt ys vs j ≡ eventAt xs us j

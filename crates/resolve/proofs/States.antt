@@ -15,7 +15,9 @@ use Rattle.laws.proofs.Views.{getD-listOf}
 use Rattle.gate.specs.Matrix.{mul2Of}
 use Rattle.gate.specs.declared.matrix.Mat2.{Mat2}
 use Rattle.gate.proofs.Stored.{mat2-back, length4, mat4-back, mat4-alike}
-use Rattle.work.specs.Marks.{markAt, putMark}
+use Rattle.work.specs.Sizes.{recordMarks}
+use Rattle.work.specs.Rows.{recordAt, floatPlace, FloatsAt, residualPlace, itemEnd}
+use Rattle.work.specs.Marks.{markAt, putMark, MarksAt}
 use Rattle.work.specs.Columns.{kindColumn, aColumn, bColumn, cColumn, labColumn, contentColumn, goneKind, oneItem, opaqueItem}
 use Rattle.work.proofs.Records.{put-size, put-here, put-column, put-record}
 use Rattle.fuse.specs.Layout.{matrix2Of, matrix4Of, putMatrix2Of, putMatrix4Of, eventAt, Within}
@@ -35,10 +37,10 @@ use Rattle.resolve.proofs.Records.{newest-same, newest-more, MarksOf, F
 
 -- ---- a remainder that is written is read back
 
-rest-back : (xs : List Float) (us : List ℕ) (g s : ℕ) (x : Mat2) → 64 * (g + s) + 64 ≤ length xs → 32 * (g + s) + 32 ≤ length us
+rest-back : (xs : List Float) (us : List ℕ) (g s : ℕ) (x : Mat2) → FloatsAt xs (g + s) → MarksAt us (g + s)
     → restAt (putMatrix2Of xs (g + s) x) (putMark us (g + s) kindColumn oneItem) g s ≡ rest x
 unfolding restAt
-rest-back xs us g s x floats marks = rw (put-here us (g + s) 0 4 (omega arith), mat2-back xs (64 * (g + s)) x (omega arith))
+rest-back xs us g s x floats marks = rw (put-here us (g + s) 0 4 (omega arith), mat2-back xs (recordAt (g + s)) x (omega arith))
 
 -- ---- a record of a slot
 
@@ -78,7 +80,7 @@ module _ (us : List ℕ) (g s k : ℕ) where
   unfolding emptiedMarks
   emptied-marks = marks-put (g + s) us (putMark us (g + s) 0 0) 3 k (omega arith) (marks-put (g + s) us us 0 0 (omega arith) (marks-same (g + s) us))
 
-  module _ (room : 32 * (g + s) + 32 ≤ length us) where
+  module _ (room : MarksAt us (g + s)) where
     pub emptied-kind : markAt (emptiedMarks us g s k) (g + s) kindColumn ≡ goneKind
     unfolding emptiedMarks
     emptied-kind = put-column (putMark us (g + s) 0 0) (g + s) 3 k (g + s) 0 (omega arith) (omega arith) (λ e. omega arith) ∙ put-here us (g + s) 0 0 (omega arith)
@@ -108,7 +110,7 @@ module _ (us : List ℕ) (g s k : ℕ) where
 
 -- ---- a slot lengthened, and a promise counted down
 
-module _ (xs : List Float) (us : List ℕ) (g n s i : ℕ) (t : Tally) (l : s < n) (h : i ≤ g) (floats : 64 * (g + s) + 64 ≤ length xs) (marks : 32 * (g + s) + 32 ≤ length us) where
+module _ (xs : List Float) (us : List ℕ) (g n s i : ℕ) (t : Tally) (l : s < n) (h : i ≤ g) (floats : FloatsAt xs (g + s)) (marks : MarksAt us (g + s)) where
   pub lengthened-state : (m x : Mat2) → x ≡ mul2Of m (opened (restAt xs us g s))
       → resolvedAt (putMatrix2Of xs (g + s) x) (putMark us (g + s) kindColumn oneItem) g n i t ≡ lengthened s m (resolvedAt xs us g n i t)
   unfolding resolvedAt
@@ -155,7 +157,7 @@ module _ (us : List ℕ) (a b : ℕ) where
   traded-size = put-size (putMark us a 5 (markAt us b 5)) b 5 (markAt us a 5) ∙ put-size us a 5 (markAt us b 5)
 
   -- another column
-  traded-column : (j d : ℕ) → d < 32 → d ≢ contentColumn → markAt (tradedMarks us a b) j d ≡ markAt us j d
+  traded-column : (j d : ℕ) → d < recordMarks → d ≢ contentColumn → markAt (tradedMarks us a b) j d ≡ markAt us j d
   unfolding tradedMarks
   traded-column j d h ne =
       put-column (putMark us a 5 (markAt us b 5)) b 5 (markAt us a 5) j d (omega arith) h (λ e. ne (sym e))
@@ -176,7 +178,7 @@ module _ (us : List ℕ) (a b : ℕ) where
     c = λ j l b. rw (traded-column j 3 (omega arith) (λ e. omega arith)) (w .c j l b);
   }
 
-  module _ (ra : 32 * a + 32 ≤ length us) (rb : 32 * b + 32 ≤ length us) where
+  module _ (ra : MarksAt us a) (rb : MarksAt us b) where
     abbrev wire : ℕ → ℕ
     wire j = markAt (tradedMarks us a b) j contentColumn
 
@@ -259,7 +261,7 @@ module _ (us : List ℕ) (i k a b : ℕ) where
       marks-put i us (putMark (putMark us i 0 k) i 1 a) 2 b (omega arith)
       (marks-put i us (putMark us i 0 k) 1 a (omega arith) (marks-put i us us 0 k (omega arith) (marks-same i us)))
 
-  module _ (room : 32 * i + 32 ≤ length us) where
+  module _ (room : MarksAt us i) where
     item-kind : markAt (itemMarks us i k a b) i kindColumn ≡ k
     unfolding itemMarks
     item-kind =
@@ -284,7 +286,7 @@ mark-kind phaseless = refl
 mark-kind interacting = refl
 mark-kind neither = refl
 
-pub opaque-item : (xs : List Float) (us : List ℕ) (i a b : ℕ) → 32 * i + 32 ≤ length us → itemAt xs (itemMarks us i opaqueItem a b) i ≡ Items.opaque ∷ []
+pub opaque-item : (xs : List Float) (us : List ℕ) (i a b : ℕ) → MarksAt us i → itemAt xs (itemMarks us i opaqueItem a b) i ≡ Items.opaque ∷ []
 unfolding itemAt
 opaque-item xs us i a b room = rw (item-kind us i 9 a b room)
 
@@ -293,19 +295,19 @@ module _ (xs : List Float) (i : ℕ) (c : Class2) where
   unfolding itemFloats
   item-floats = floats-set i xs (putMatrix4Of xs i (c .v)) 32 (residualOf (c .kind)) (omega arith) (floats-put4 i xs (c .v))
 
-  module _ (room : 64 * i + 64 ≤ length xs) where
+  module _ (room : FloatsAt xs i) where
     item-residual : residualAt (itemFloats xs i c) i ≡ residualOf (c .kind)
     unfolding itemFloats
-    item-residual = getD-set-same (putMatrix4Of xs i (c .v)) (64 * i + 32) (residualOf (c .kind)) nan (omega (arith, length4 xs (64 * i) (c .v)))
+    item-residual = getD-set-same (putMatrix4Of xs i (c .v)) (floatPlace i residualPlace) (residualOf (c .kind)) nan (omega (arith, length4 xs (recordAt i) (c .v)))
 
     item-matrix : matrix4Of (itemFloats xs i c) i ≡ c .v
     unfolding itemFloats
     item-matrix =
-        mat4-alike (putMatrix4Of xs i (c .v)) (set (putMatrix4Of xs i (c .v)) (64 * i + 32) (residualOf (c .kind))) (64 * i)
-        (λ q a b. getD-set-other (putMatrix4Of xs i (c .v)) (64 * i + 32) q (residualOf (c .kind)) nan (λ e. omega arith))
-        ∙ mat4-back xs (64 * i) (c .v) (omega arith)
+        mat4-alike (putMatrix4Of xs i (c .v)) (set (putMatrix4Of xs i (c .v)) (floatPlace i residualPlace) (residualOf (c .kind))) (recordAt i)
+        (λ q a b. getD-set-other (putMatrix4Of xs i (c .v)) (floatPlace i residualPlace) q (residualOf (c .kind)) nan (λ e. omega arith))
+        ∙ mat4-back xs (recordAt i) (c .v) (omega arith)
 
-    pub block-item : (us : List ℕ) (a b : ℕ) → 32 * i + 32 ≤ length us
+    pub block-item : (us : List ℕ) (a b : ℕ) → MarksAt us i
         → itemAt (itemFloats xs i c) (itemMarks us i (kindMark (kindOf (c .kind))) a b) i
         ≡ Items.two (kindOf (c .kind)) a b (residualOf (c .kind)) (c .v) ∷ []
     unfolding itemAt
@@ -322,7 +324,7 @@ module _ (xs : List Float) (i : ℕ) (c : Class2) where
 
 -- ---- scratch
 
-pub scratch-state : (row : ℕ) (xs ys : List Float) (us : List ℕ) (g n i : ℕ) (t : Tally) → 33 ≤ row → RowOnly row xs ys → resolvedAt ys us g n i t ≡ resolvedAt xs us g n i t
+pub scratch-state : (row : ℕ) (xs ys : List Float) (us : List ℕ) (g n i : ℕ) (t : Tally) → itemEnd ≤ row → RowOnly row xs ys → resolvedAt ys us g n i t ≡ resolvedAt xs us g n i t
 unfolding resolvedAt
 scratch-state row xs ys us g n i t h o = λ z. record {
   rests = listed-same none n (restAt xs us g) (restAt ys us g) (λ s l. rest-alike xs ys us us g s refl (λ q a b. at (g + s) q a (omega arith))) z;
@@ -334,7 +336,7 @@ scratch-state row xs ys us g n i t h o = λ z. record {
   angled = t .angled;
 }
   where
-    at : (j q : ℕ) → 64 * j ≤ q → q < 64 * j + 33 → getD ys q nan ≡ getD xs q nan
+    at : (j q : ℕ) → recordAt j ≤ q → q < floatPlace j itemEnd → getD ys q nan ≡ getD xs q nan
     at j q a b =
-        let e : q ≡ 64 * j + (q - 64 * j) = omega arith in
-        ap (λ p. getD ys p nan) e ∙ o .same j (q - 64 * j) (omega arith) (inl (omega arith)) ∙ ap (λ p. getD xs p nan) (sym e)
+        let e : q ≡ recordAt j + (q - recordAt j) = omega arith in
+        ap (λ p. getD ys p nan) e ∙ o .same j (q - recordAt j) (omega arith) (inl (omega arith)) ∙ ap (λ p. getD xs p nan) (sym e)

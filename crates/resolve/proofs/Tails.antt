@@ -22,6 +22,8 @@ use Rattle.gate.proofs.Products.{time-product-more}
 use Rattle.fuse.specs.Events.{Event, gone, one, two, three, oneOn, blockOn}
 use Rattle.fuse.specs.Layout.{eventAt, matrix2Of, oneAt, blockAt}
 use Rattle.fuse.proofs.Places.{one-is, block-is, event-alike}
+use Rattle.work.specs.Sizes.{recordFloats}
+use Rattle.work.specs.Rows.{recordAt, floatPlace, FloatsAt, rowFloats, matrixFloats}
 use Rattle.work.specs.Marks.{markAt}
 use Rattle.resolve.specs.Cuts.{ones, ahead, prefixOf}
 use Rattle.resolve.specs.Slots.{todo, RowOnly, PassedOver, Prefixes}
@@ -111,37 +113,37 @@ module _ (row : ℕ) where
   pub row-only-trans : (xs ys zs : List Float) → RowOnly row xs ys → RowOnly row ys zs → RowOnly row xs zs
   row-only-trans xs ys zs a b = record { size = b .size ∙ a .size; same = λ i q h c. b .same i q h c ∙ a .same i q h c }
 
-  pub row-only-put : (xs ys : List Float) (t : ℕ) (m : Mat2) → row ≤ 56 → RowOnly row xs ys → RowOnly row xs (store2Of ys (64 * t + row) m)
+  pub row-only-put : (xs ys : List Float) (t : ℕ) (m : Mat2) → row + rowFloats ≤ recordFloats → RowOnly row xs ys → RowOnly row xs (store2Of ys (floatPlace t row) m)
   row-only-put xs ys t m h o = record {
-    size = length-row ys (64 * t + row) (flat m) ∙ o .size;
-    same = λ i q l a. place-stays ys (64 * t + row) (flat m) (64 * i + q) (apart i q l a) ∙ o .same i q l a;
+    size = length-row ys (floatPlace t row) (flat m) ∙ o .size;
+    same = λ i q l a. place-stays ys (floatPlace t row) (flat m) (floatPlace i q) (apart i q l a) ∙ o .same i q l a;
   }
     where
-      apart : (i q : ℕ) → q < 64 → (q < row) ⊎ (row + 8 ≤ q) → (64 * i + q < 64 * t + row) ⊎ (64 * t + row + 8 ≤ 64 * i + q)
-      apart i q l a = by (lt-or-le (64 * i + q) (64 * t + row)) (lt-or-le (64 * i + q) (64 * t + row + 8))
+      apart : (i q : ℕ) → q < recordFloats → (q < row) ⊎ (row + rowFloats ≤ q) → (floatPlace i q < floatPlace t row) ⊎ (floatPlace t row + rowFloats ≤ floatPlace i q)
+      apart i q l a = by (lt-or-le (floatPlace i q) (floatPlace t row)) (lt-or-le (floatPlace i q) (floatPlace t row + rowFloats))
         where
-          by : (64 * i + q < 64 * t + row) ⊎ (64 * t + row ≤ 64 * i + q) → (64 * i + q < 64 * t + row + 8) ⊎ (64 * t + row + 8 ≤ 64 * i + q)
-              → (64 * i + q < 64 * t + row) ⊎ (64 * t + row + 8 ≤ 64 * i + q)
+          by : (floatPlace i q < floatPlace t row) ⊎ (floatPlace t row ≤ floatPlace i q) → (floatPlace i q < floatPlace t row + rowFloats) ⊎ (floatPlace t row + rowFloats ≤ floatPlace i q)
+              → (floatPlace i q < floatPlace t row) ⊎ (floatPlace t row + rowFloats ≤ floatPlace i q)
           by (inl x) y = inl x
           by (inr x) (inr y) = inr y
           by (inr x) (inl y) = absurd (⊎-elim (λ z. omega arith) (λ z. omega arith) a)
 
   -- the matrix of a record is elsewhere
-  pub row-only-event : (xs ys : List Float) → 32 ≤ row → RowOnly row xs ys → (us : List ℕ) (j : ℕ) → eventAt ys us j ≡ eventAt xs us j
+  pub row-only-event : (xs ys : List Float) → matrixFloats ≤ row → RowOnly row xs ys → (us : List ℕ) (j : ℕ) → eventAt ys us j ≡ eventAt xs us j
   row-only-event xs ys h o us j = event-alike xs ys us us j refl refl refl refl (λ q a b. one q a b)
     where
-      one : (q : ℕ) → 64 * j ≤ q → q < 64 * j + 32 → getD ys q nan ≡ getD xs q nan
+      one : (q : ℕ) → recordAt j ≤ q → q < recordAt j + matrixFloats → getD ys q nan ≡ getD xs q nan
       one q a b =
-          let e : q ≡ 64 * j + (q - 64 * j) = omega arith in
-          ap (λ p. getD ys p nan) e ∙ o .same j (q - 64 * j) (omega arith) (inl (omega arith)) ∙ ap (λ p. getD xs p nan) (sym e)
+          let e : q ≡ recordAt j + (q - recordAt j) = omega arith in
+          ap (λ p. getD ys p nan) e ∙ o .same j (q - recordAt j) (omega arith) (inl (omega arith)) ∙ ap (λ p. getD xs p nan) (sym e)
 
-  pub row-only-matrix2 : (xs ys : List Float) → 32 ≤ row → RowOnly row xs ys → (j : ℕ) → matrix2Of ys j ≡ matrix2Of xs j
-  row-only-matrix2 xs ys h o j = mat2-alike xs ys (64 * j) (λ q a b. one q a b)
+  pub row-only-matrix2 : (xs ys : List Float) → matrixFloats ≤ row → RowOnly row xs ys → (j : ℕ) → matrix2Of ys j ≡ matrix2Of xs j
+  row-only-matrix2 xs ys h o j = mat2-alike xs ys (recordAt j) (λ q a b. one q a b)
     where
-      one : (q : ℕ) → 64 * j ≤ q → q < 64 * j + 8 → getD ys q nan ≡ getD xs q nan
+      one : (q : ℕ) → recordAt j ≤ q → q < floatPlace j rowFloats → getD ys q nan ≡ getD xs q nan
       one q a b =
-          let e : q ≡ 64 * j + (q - 64 * j) = omega arith in
-          ap (λ p. getD ys p nan) e ∙ o .same j (q - 64 * j) (omega arith) (inl (omega arith)) ∙ ap (λ p. getD xs p nan) (sym e)
+          let e : q ≡ recordAt j + (q - recordAt j) = omega arith in
+          ap (λ p. getD ys p nan) e ∙ o .same j (q - recordAt j) (omega arith) (inl (omega arith)) ∙ ap (λ p. getD xs p nan) (sym e)
 
 -- ---- the invariant: `gs` is the tail so far
 
@@ -154,7 +156,7 @@ pub record Gathering (xs ys : List Float) (us : List ℕ) (k g s row len j : ℕ
   pub only : RowOnly row xs ys
   pub tail : gs ++ ahead s (todo xs us j g) ≡ ahead s (todo xs us k g)
   pub now : acc ≡ timeProductOf gs
-  pub each : (t : ℕ) → t ≤ len → mat2At ys (64 * t + row) ≡ prefixOf gs t
+  pub each : (t : ℕ) → t ≤ len → mat2At ys (floatPlace t row) ≡ prefixOf gs t
 
 pub gather-none : (xs : List Float) (us : List ℕ) (k g s row : ℕ) (acc : Mat2) → k ≤ g → acc ≡ id2 → mat2At xs row ≡ acc → Gathering xs xs us k g s row 0 k acc
 unfolding timeProductOf timeProductFrom prefixOf
@@ -168,12 +170,12 @@ gather-none xs us k g s row acc h e back = record {
   tail = refl;
   now = e;
   each = λ t l.
-      let p : 64 * t + row ≡ row = omega arith in
+      let p : floatPlace t row ≡ row = omega arith in
       let z : t ≡ 0 = omega arith in
       ap (mat2At xs) p ∙ back ∙ e ∙ sym (ap (λ t. timeProductOf (take t [])) z);
 }
 
-module _ (xs ys : List Float) (us : List ℕ) (k g s row len j : ℕ) (acc : Mat2) (low : 32 ≤ row) (high : row ≤ 56) (i : Gathering xs ys us k g s row len j acc) where
+module _ (xs ys : List Float) (us : List ℕ) (k g s row len j : ℕ) (acc : Mat2) (low : matrixFloats ≤ row) (high : row + rowFloats ≤ recordFloats) (i : Gathering xs ys us k g s row len j acc) where
   done : ahead s (todo xs us j g) ≡ [] → Prefixes xs ys us k g s row len
   done h =
       let all : i .gs ≡ ahead s (todo xs us k g) = sym (append-nil (i .gs)) ∙ ap (λ l. i .gs ++ l) (sym h) ∙ i .tail in
@@ -217,8 +219,8 @@ module _ (xs ys : List Float) (us : List ℕ) (k g s row len j : ℕ) (acc : Mat
     each = i .each;
   }
 
-  pub gather-one : (m acc′ : Mat2) → j < g → 64 * len + 128 ≤ length xs → oneAt us s j ≡ true → m ≡ matrix2Of ys j → acc′ ≡ timeStepOf acc m
-      → Gathering xs (store2Of ys (64 * (len + 1) + row) acc′) us k g s row (len + 1) (j + 1) acc′
+  pub gather-one : (m acc′ : Mat2) → j < g → FloatsAt xs (len + 1) → oneAt us s j ≡ true → m ≡ matrix2Of ys j → acc′ ≡ timeStepOf acc m
+      → Gathering xs (store2Of ys (floatPlace (len + 1) row) acc′) us k g s row (len + 1) (j + 1) acc′
   unfolding prefixOf
   gather-one m acc′ h room o e a = record {
     gs = i .gs ++ (matrix2Of xs j ∷ []);
@@ -236,20 +238,20 @@ module _ (xs ys : List Float) (us : List ℕ) (k g s row len j : ℕ) (acc : Mat
       acc-is = a ∙ ap₂ timeStepOf (i .now) (e ∙ row-only-matrix2 row xs ys low (i .only) j) ∙ sym (time-product-more (i .gs) (matrix2Of xs j))
 
       -- the newest cut takes all of it
-      new : (t : ℕ) → t ≡ len + 1 → mat2At (store2Of ys (64 * (len + 1) + row) acc′) (64 * t + row) ≡ timeProductOf (take t (i .gs ++ (matrix2Of xs j ∷ [])))
+      new : (t : ℕ) → t ≡ len + 1 → mat2At (store2Of ys (floatPlace (len + 1) row) acc′) (floatPlace t row) ≡ timeProductOf (take t (i .gs ++ (matrix2Of xs j ∷ [])))
       new t p =
           rw p
-          (mat2-back ys (64 * (len + 1) + row) acc′ (omega (arith, i .only .size)) ∙ acc-is
+          (mat2-back ys (floatPlace (len + 1) row) acc′ (omega (arith, i .only .size)) ∙ acc-is
           ∙ ap timeProductOf (sym (take-all (len + 1) (i .gs ++ (matrix2Of xs j ∷ [])) (omega (arith, length-append (i .gs) (matrix2Of xs j ∷ []), i .count)))))
 
       -- the others are as they were
-      old : (t : ℕ) → t < len + 1 → mat2At (store2Of ys (64 * (len + 1) + row) acc′) (64 * t + row) ≡ timeProductOf (take t (i .gs ++ (matrix2Of xs j ∷ [])))
+      old : (t : ℕ) → t < len + 1 → mat2At (store2Of ys (floatPlace (len + 1) row) acc′) (floatPlace t row) ≡ timeProductOf (take t (i .gs ++ (matrix2Of xs j ∷ [])))
       old t l =
-          mat2-alike ys (store2Of ys (64 * (len + 1) + row) acc′) (64 * t + row) (λ q b c. place-stays ys (64 * (len + 1) + row) (flat acc′) q (inl (omega arith)))
+          mat2-alike ys (store2Of ys (floatPlace (len + 1) row) acc′) (floatPlace t row) (λ q b c. place-stays ys (floatPlace (len + 1) row) (flat acc′) q (inl (omega arith)))
           ∙ i .each t (omega arith) ∙ ap timeProductOf (sym (take-append-le t (i .gs) (matrix2Of xs j ∷ []) (omega (arith, i .count))))
 
 -- the row of cut 0 was written before the loop
-pub prefixes-after : (xs zs ys : List Float) (us : List ℕ) (k g s row r : ℕ) (m : Mat2) → 32 ≤ row → row ≤ 56 → zs ≡ store2Of xs row m
+pub prefixes-after : (xs zs ys : List Float) (us : List ℕ) (k g s row r : ℕ) (m : Mat2) → matrixFloats ≤ row → row + rowFloats ≤ recordFloats → zs ≡ store2Of xs row m
     → Prefixes zs ys us k g s row r → Prefixes xs ys us k g s row r
 prefixes-after xs zs ys us k g s row r m low high e p = record {
   only = row-only-trans row xs zs ys first (p .only);
@@ -260,7 +262,7 @@ prefixes-after xs zs ys us k g s row r m low high e p = record {
   where
     first : RowOnly row xs zs
     first =
-        let z : 64 * 0 + row ≡ row = omega arith in
+        let z : floatPlace 0 row ≡ row = omega arith in
         subst (λ l. RowOnly row xs l) (ap (λ p. store2Of xs p m) z ∙ sym e) (row-only-put row xs xs 0 m high (row-only-same row xs))
 
     tails : ahead s (todo zs us k g) ≡ ahead s (todo xs us k g)

@@ -31,7 +31,8 @@ use Rattle.detect.specs.declared.report.Answer.{Answer}
 use Rattle.detect.specs.Counts.{countedOnto}
 use Rattle.detect.specs.Report.{reportOf}
 use Rattle.detect.specs.Compile.{labelsOf, itemsOf, tapeCounts, reportedOf, programOf}
-use Rattle.detect.specs.Questions.{workFloats, workMarks, hasWork, answerOf, askedFrom}
+use Rattle.work.specs.Sizes.{workFloats, workMarks}
+use Rattle.detect.specs.Questions.{hasWork, answerOf, askedFrom}
 use Rattle.detect.proofs.Edges.{edges}
 use Rattle.detect.proofs.Reports.{blocks-add, operations-told}
 use Rattle.local.specs.Bounds.{statePlaces}

@@ -19,7 +19,8 @@ use Rattle.detect.specs.declared.report.Answer.{Answer}
 use Rattle.detect.specs.declared.report.Compiled.{Compiled}
 use Rattle.detect.specs.Report.{table, reportOf}
 use Rattle.detect.specs.Compile.{tapeCounts, reportedOf, programOf}
-use Rattle.detect.specs.Questions.{workFloats, workMarks, numberOf, done}
+use Rattle.work.specs.Sizes.{workFloats, workMarks}
+use Rattle.detect.specs.Questions.{numberOf, done}
 use Rattle.detect.proofs.Edges.{modes-by}
 use Rattle.local.specs.Bounds.{statePlaces}
 use Rattle.local.specs.State.{stateAt, stored, get}

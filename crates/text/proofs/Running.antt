@@ -16,7 +16,8 @@ use Rattle.detect.specs.declared.report.Report.{Report}
 use Rattle.detect.specs.declared.report.Answer.the-variants.{Done, Refused}
 use Rattle.detect.specs.Report.{reportOf, noReport}
 use Rattle.detect.specs.Compile.{reportedOf, programOf}
-use Rattle.detect.specs.Questions.{Asked, early, late, passed, answerOf, workFloats, workMarks, hasWork, askedFrom}
+use Rattle.work.specs.Sizes.{recordFloats, recordMarks, workFloats, workMarks}
+use Rattle.detect.specs.Questions.{Asked, early, late, passed, answerOf, hasWork, askedFrom}
 use Rattle.detect.proofs.Reports.{operations-told}
 use Rattle.local.specs.Bounds.{statePlaces}
 use Rattle.state.specs.Bounds.{dimOf}
@@ -32,10 +33,10 @@ abbrev records : ℕ
 records = printedGates + printedQubits
 
 abbrev pub floats : ℕ
-floats = 64 * records
+floats = recordFloats * records
 
 abbrev pub marks : ℕ
-marks = 32 * records
+marks = recordMarks * records
 
 -- an item becomes at most three operations
 abbrev pub places : ℕ

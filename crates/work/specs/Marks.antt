@@ -23,9 +23,13 @@ putMark us i c v = set us (markPlace i c) v
 abbrev pub column : ℕ → List ℕ → ℕ → ℕ
 column c us i = markAt us i c
 
--- the first n records are there
+-- the marks of the first n records are there
 abbrev pub Records : List ℕ → ℕ → Type 0
 Records us n = recordMarks * n ≤ length us
+
+-- those of record i are
+abbrev pub MarksAt : List ℕ → ℕ → Type 0
+MarksAt us i = markPlace i recordMarks ≤ length us
 
 -- from us to vs only the columns that p names have changed
 pub record Only (p : ℕ → Bool) (us vs : List ℕ) : Type 0 where

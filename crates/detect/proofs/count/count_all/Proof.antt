@@ -13,6 +13,7 @@ use Rattle.detect.proofs.Sums.{share-adds, counts-add, adds-small, coun
 use Rattle.detect.proofs.Keeping.{record-stays, counted-none, counted-same, counted-turn}
 use Rattle.detect.proofs.count.count_all.Statement.{statement}
 use Rattle.detect.proofs.count.count_all.Tie as tie
+use Rattle.work.specs.Rows.{FloatsAt}
 
 abbrev Inv-loop : tie.InvT-loop
 Inv-loop w₀ u m n tol c₀ i₀ w c i = (i ≤ m) × (c ≡ countsOf tol (modesIn u) (itemsIn w₀ u i)) × Counted c w₀ w u i
@@ -66,7 +67,7 @@ loop-again c =
     let f = countsOf (e .args .tol) (modesIn u) in
     let t = k .before .loop-test .taken in
     let more : l .i + 1 ≤ e .args .m = omega (arith, t) in
-    let fit : 64 * l .i + 64 ≤ length (l .w) = omega (arith, e .pre .floats, t, l .inv .2 .size) in
+    let fit : FloatsAt (l .w) (l .i) = omega (arith, e .pre .floats, t, l .inv .2 .size) in
     ⊎-elim
     (λ t.
     let is = rw (k .mark .ensures) at (sym (c .before .is-item .ensures) ∙ t .0 .taken) in

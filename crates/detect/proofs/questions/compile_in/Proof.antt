@@ -7,6 +7,7 @@ use lib.Ieee.{nan}
 use Rattle.gate.specs.Complex.{f0}
 use Rattle.tape.specs.Parse.{parse, contentOf}
 use Rattle.detect.specs.Questions.{done, answerOf, opsAfter}
+use Rattle.detect.proofs.Checking.{lent-space}
 use Rattle.detect.proofs.Answering.{filled-whole, ten-short, ten-long, too-short, long-enough, emits-fit, writes}
 use Rattle.detect.proofs.questions.compile_in.Statement.{statement}
 use Rattle.detect.proofs.questions.compile_in.Tie as tie
@@ -14,8 +15,8 @@ use Rattle.detect.proofs.questions.compile_in.Tie as tie
 detect-requires : tie.Need-detect-requires
 detect-requires c κs =
     let s = c .before .before .before .before .before .before in
-    let h = s .pre in
-    (h .0, record { floats = omega (arith, h .3); marks = omega (arith, h .4); few = omega (arith, h .1, h .2) }, h .1)
+    let a = s .args in
+    lent-space (a .tape .now) (a .h) (a .g) (a .w .now) (a .u .now) (s .pre)
 
 returns : tie.Need-returns
 unfolding answerOf opsAfter
@@ -42,7 +43,7 @@ returns c =
 add-emit : tie.Need-add-emit
 add-emit c =
     let s = c .before .before .before .before .before .before .before .before .before .before .before .before .before .before .before in
-    omega (arith, s .pre .1, s .pre .2)
+    omega (arith, s .pre .tape .qubits, s .pre .tape .few)
 
 emit-requires : tie.Need-emit-requires
 emit-requires c κs =

@@ -4,10 +4,9 @@ use borrow.Author.Needs.{needs}
 use lib.ListN.{length}
 use Rattle.gate.specs.Complex.{f0}
 use Rattle.tape.specs.Parse.{parse}
-use Rattle.tape.proofs.CursorLaws.{checked-passed}
-use Rattle.tape.proofs.GoodLaws.{gates-good, gates-few}
-use Rattle.detect.specs.Questions.{answerOf, workAfter, opsAfter, workFloats, workMarks}
-use Rattle.detect.proofs.Checking.{asked-refused, asked-good}
+use Rattle.work.specs.Sizes.{workFloats, workMarks}
+use Rattle.detect.specs.Questions.{answerOf, workAfter, opsAfter}
+use Rattle.detect.proofs.Checking.{asked-refused, asked-good, read-good}
 use Rattle.gaussian.specs.Run.{stateAfter, askedReport}
 use Rattle.gaussian.proofs.Claim.{claim-of}
 use Rattle.gaussian.proofs.engine.run.Statement.{statement}
@@ -18,11 +17,7 @@ run-checked-requires c κs =
     let m = c .before .before .before .before .before in
     let t = m .before .before .before .before .before .before .before .before .args .tape .now in
     let e = sym (m .before .before .check-tape .ensures) ∙ m .c2 .given .1 in
-    let p = checked-passed t _ _ _ e in (
-      record { cursor = p .cursor; count = p .gates; good = λ x k. rw (p .header-is) (gates-good t x k) },
-      rw (p .header-is) (p .header .qubits),
-      rw (p .gates) (gates-few t),
-    )
+    read-good t _ _ _ e
 
 returns : tie.Need-returns
 unfolding answerOf workAfter opsAfter stateAfter

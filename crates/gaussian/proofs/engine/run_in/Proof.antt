@@ -7,6 +7,7 @@ use lib.Ieee.{nan}
 use Rattle.gate.specs.Complex.{f0}
 use Rattle.tape.specs.Parse.{contentOf, parse}
 use Rattle.detect.specs.Questions.{late, done, answerOf, opsAfter}
+use Rattle.detect.proofs.Checking.{lent-space}
 use Rattle.detect.proofs.Answering.{filled-whole}
 use Rattle.gaussian.specs.Run.{stateAfter}
 use Rattle.gaussian.proofs.Answering.{told-no, told-yes, passes, emits-kept, emits-room, runs-room, program-written, program-run}
@@ -15,11 +16,12 @@ use Rattle.gaussian.proofs.engine.run_in.Tie as tie
 
 detect-requires : tie.Need-detect-requires
 detect-requires c κs =
-    let h = c .before .before .before .before .before .before .before .pre in
-    (h .0, record { floats = omega (arith, h .3); marks = omega (arith, h .4); few = omega (arith, h .1, h .2) }, h .1)
+    let s = c .before .before .before .before .before .before .before in
+    let a = s .args in
+    lent-space (a .tape .now) (a .h) (a .g) (a .w .now) (a .u .now) (s .pre)
 
 verdict-requires : tie.Need-verdict-requires
-verdict-requires c κs = c .before .before .before .before .before .before .before .before .before .before .before .before .pre .1
+verdict-requires c κs = c .before .before .before .before .before .before .before .before .before .before .before .before .pre .tape .qubits
 
 returns : tie.Need-returns
 unfolding answerOf opsAfter stateAfter

@@ -8,6 +8,7 @@ use borrow.Author.Needs.{needs}
 use lib.ListN.{length}
 use Rattle.gate.specs.Lent.{mat2At}
 use Rattle.gate.proofs.Stored.{mat2-back, length-row}
+use Rattle.work.specs.Rows.{recordAt, FloatsAt, rowFloats}
 use Rattle.resolve.proofs.Tails.{Gathering, gather-none, gather-end, gather-block, gather-skip, gather-over, gather-one, prefixes-after}
 use Rattle.resolve.proofs.cuts.prefixes.Statement.{statement}
 use Rattle.resolve.proofs.cuts.prefixes.Tie as tie
@@ -46,9 +47,9 @@ loop-holds c =
 
 -- what is read and written stands in the slice, and nothing wraps
 inside : (c : tie.In-loop Inv-loop μ-loop)
-    → (64 * c .before .loop .j + 64 ≤ length (c .before .loop .w))
-    × (64 * c .before .loop .len + 128 ≤ length (c .before .loop .w))
-    × (64 * (c .before .loop .len + 1) + c .before .before .before .before .before .before .before .before .before .before .args .row + 8
+    → (FloatsAt (c .before .loop .w) (c .before .loop .j))
+    × (FloatsAt (c .before .loop .w) (c .before .loop .len + 1))
+    × (recordAt (c .before .loop .len + 1) + c .before .before .before .before .before .before .before .before .before .before .args .row + rowFloats
     ≤ length (c .before .loop .w))
 inside c =
     let pre = c .before .before .before .before .before .before .before .before .before .before .pre in
@@ -100,7 +101,7 @@ loop-again c =
     let e = test .before .before .before .before .before .before .before .before .before .before in
     let a = e .args in
     let w₀ = test .before .before .before .before .before .store2 .last .0 in
-    let room : 64 * l .len + 128 ≤ length w₀ = omega (arith, inside test .1, l .inv .only .size) in
+    let room : FloatsAt w₀ (l .len + 1) = omega (arith, inside test .1, l .inv .only .size) in
     let low = e .pre .3 in
     let high = e .pre .4 in
     let one = c .before .before .one-on in
