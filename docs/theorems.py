@@ -85,16 +85,21 @@ def missing():
     return found
 
 
-def label(x, y, words, style=""):
+def label(x, y, words, size=11, bold=False, room=None):
+    """A line of text. Where a wide font would not leave it inside its box, it is told the room that it has."""
+    wide = len(words) * size * (0.68 if bold else 0.6)
     words = words.replace("&", "&amp;").replace("<", "&lt;")
+    style = f' font-size="{size}"' + (' font-weight="bold"' if bold else "")
+    if room and wide > room:
+        style += f' textLength="{room}" lengthAdjust="spacingAndGlyphs"'
     return f'<text x="{x}" y="{y}"{style}>{words}</text>'
 
 
 def drawn():
-    out = [f'<svg xmlns="http://www.w3.org/2000/svg" viewBox="0 0 {WIDTH} {HEIGHT}" width="{WIDTH}" height="{HEIGHT}" font-family="sans-serif" font-size="11">',
+    out = [f'<svg xmlns="http://www.w3.org/2000/svg" viewBox="0 0 {WIDTH} {HEIGHT}" width="{WIDTH}" height="{HEIGHT}" font-family="Helvetica, Arial, sans-serif">',
            '<defs><marker id="a" viewBox="0 0 8 8" refX="7" refY="4" markerWidth="7" markerHeight="7" orient="auto"><path d="M0 0L8 4L0 8z"/></marker></defs>',
            f'<rect width="{WIDTH}" height="{HEIGHT}" fill="white"/>',
-           label(20, 28, "What carries which promise. An arrow leads from what is used to what rests on it.", ' font-size="14" font-weight="bold"')]
+           label(20, 28, "What carries which promise. An arrow leads from what is used to what rests on it.", 14, True)]
     for pair in re.split(r",\s*", ARROWS.strip()):
         a, b = pair.split()
         (ax, ay, aw, ah), (bx, by, bw, bh) = size(BOXES[a]), size(BOXES[b])
@@ -111,10 +116,9 @@ def drawn():
         left, top, width, title, names, file = box
         _, _, _, height = size(box)
         out.append(f'<rect x="{left}" y="{top}" width="{width}" height="{height}" fill="white" stroke="black"/>')
-        out.append(label(left + PAD, top + PAD + 10, title, ' font-weight="bold"'))
-        for k, names_line in enumerate(names):
-            out.append(label(left + PAD, top + PAD + 10 + LINE * (k + 1), names_line))
-        out.append(label(left + PAD, top + PAD + 10 + LINE * (len(names) + 1), file, ' font-size="9" fill="#333"'))
+        lines = [(title, 11, True)] + [(line, 11, False) for line in names] + [(file, 9, False)]
+        for k, (words, font, bold) in enumerate(lines):
+            out.append(label(left + PAD, top + PAD + 10 + LINE * k, words, font, bold, width - 2 * PAD))
     return "\n".join(out + ["</svg>", ""])
 
 
