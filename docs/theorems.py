@@ -96,7 +96,8 @@ def label(x, y, words, size=11, bold=False, room=None):
 
 
 def drawn():
-    out = [f'<svg xmlns="http://www.w3.org/2000/svg" viewBox="0 0 {WIDTH} {HEIGHT}" width="{WIDTH}" height="{HEIGHT}" font-family="Helvetica, Arial, sans-serif">',
+    page = f'viewBox="0 0 {WIDTH} {HEIGHT}" width="{WIDTH}" height="{HEIGHT}" font-family="Helvetica, Arial, sans-serif"'
+    out = [f'<svg xmlns="http://www.w3.org/2000/svg" {page}>',
            '<defs><marker id="a" viewBox="0 0 8 8" refX="7" refY="4" markerWidth="7" markerHeight="7" orient="auto"><path d="M0 0L8 4L0 8z"/></marker></defs>',
            f'<rect width="{WIDTH}" height="{HEIGHT}" fill="white"/>',
            label(20, 28, "What carries which promise. An arrow leads from what is used to what rests on it.", 14, True)]
