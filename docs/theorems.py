@@ -14,18 +14,18 @@ BOXES = {
     # promises 1 and 2
     "calls": (20, 50, 582, "Promises 1 and 2: every call for users", ["jozkeral_…: ensures (Tells, Reports); print_tape: ensures end, text"],
               "engine/src/states.rt, tapes.rt; text/src/print.rt"),
-    "run": (20, 150, 434, "run", ["clauses answer, work, marks, ops, state: ran, ranWork, .., ranState"],
-            "gaussian/src/engine.rt, gaussian/specs/Run.antt"),
+    "compile": (20, 150, 138, "compile", ["answer, work, marks,", "ops"], "detect/src/questions.rt"),
+    "run": (168, 150, 286, "run", ["answer, work, marks, ops, state:", "ran, ranWork, .., ranState"], "gaussian/src/engine.rt, gaussian/specs/Run.antt"),
     "asks": (464, 150, 138, "queries", ["ensures, each"], "queries/src/*.rt"),
-    "compile": (20, 250, 286, "compile", ["clauses answer, work, marks, ops: asked"], "detect/src/questions.rt, detect/specs/Questions.antt"),
-    "evolve": (316, 250, 138, "evolve", ["program-fits"], "evolve/proofs/Programs.antt"),
-    "pfaffian": (464, 250, 138, "Pfaffian, shot", ["ensures, each"], "pfaffian/src/*.rt"),
-    "order": (20, 350, 138, "order", ["order-permutes,", "chosen-inverse,", "rank-mode"], "order/proofs/*.antt"),
-    "resolve": (168, 350, 138, "items", ["gates-fused, tried-is,", "resolved-wired"], "resolve/proofs/*.antt"),
-    "local": (316, 350, 138, "apply, a map", ["step, settled, later"], "local/specs/Apply.antt"),
-    "tape": (20, 460, 138, "tape: parse", ["gates-good, gates-few,", "parse-prefix"], "tape/proofs/*.antt"),
-    "classify": (168, 460, 138, "classes", ["angled-is,", "rotation-is-map"], "classify/proofs/*.antt"),
-    "num": (316, 460, 138, "numbers", ["root-is, root-unique,", "sqrt-max"], "num/proofs/*.antt"),
+    "report": (20, 260, 286, "report, work, operations", ["detect, lend, emit_all: ensures; asked, programOf"], "detect/src/*.rt, detect/specs/Questions.antt"),
+    "evolve": (316, 260, 138, "evolve", ["program-fits"], "evolve/proofs/Programs.antt"),
+    "pfaffian": (464, 260, 138, "Pfaffian, shot", ["ensures, each"], "pfaffian/src/*.rt"),
+    "order": (20, 355, 138, "order", ["order-permutes,", "chosen-inverse,", "rank-mode"], "order/proofs/*.antt"),
+    "resolve": (168, 355, 138, "items", ["gates-fused, tried-is,", "resolved-wired"], "resolve/proofs/*.antt"),
+    "local": (316, 355, 138, "apply, a map", ["step, settled, later"], "local/specs/Apply.antt"),
+    "tape": (20, 470, 138, "tape: parse", ["gates-good, gates-few,", "parse-prefix"], "tape/proofs/*.antt"),
+    "classify": (168, 470, 138, "classes", ["angled-is,", "rotation-is-map"], "classify/proofs/*.antt"),
+    "num": (316, 470, 138, "numbers", ["root-is, root-unique,", "sqrt-max"], "num/proofs/*.antt"),
     # promise 4
     "signs": (640, 50, 145, "Promise 4: the signs", ["signs, signs-in-slices,", "signs-by-calls"], "signs/proofs/Signs.antt"),
     "lost": (795, 50, 145, "four lost turns", ["refused, own-effect,", "own-answers"], "signs/proofs/Refused.antt"),
@@ -56,7 +56,7 @@ BOXES = {
 }
 
 ARROWS = """
-run calls, asks calls, compile run, evolve run, order compile, local evolve, resolve compile, pfaffian asks, classify resolve, tape resolve, num classify,
+run calls, compile calls, asks calls, report compile, report run, evolve run, order report, local evolve, resolve report, pfaffian asks, classify resolve, tape resolve, num classify,
 claim ccall, claim wrong, accepted claim, answering claim, plain claim, numbered accepted, holds answering, told answering, tables answering, moved holds,
 follows holds, fits moved, fits follows, keeps follows, tapeplain plain,
 signs lost, pulled signs, zprod signs, steps pulled, odd pulled
