@@ -56,7 +56,8 @@ BOXES = {
 }
 
 ARROWS = """
-run calls, compile calls, asks calls, report compile, report run, evolve run, order report, local evolve, resolve report, pfaffian asks, classify resolve, tape resolve, num classify,
+run calls, compile calls, asks calls, report compile, report run, evolve run, order report, local evolve, resolve report,
+pfaffian asks, classify resolve, tape resolve, num classify,
 claim ccall, claim wrong, accepted claim, answering claim, plain claim, numbered accepted, holds answering, told answering, tables answering, moved holds,
 follows holds, fits moved, fits follows, keeps follows, tapeplain plain,
 signs lost, pulled signs, zprod signs, steps pulled, odd pulled
