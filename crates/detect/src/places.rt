@@ -6,10 +6,9 @@ ghost use lib.Seq.{paste};
 ghost use Rattle.laws.specs.Bounds.{opPlaces};
 ghost use Rattle.detect.specs.Operation.{onePlaces, twoPlaces, interactionPlaces};
 use gate::Complex;
+pub use laws::OP_PLACES;
 use real::Map2;
 use real::Map4;
-
-pub use laws::OP_PLACES;
 
 // Where a record keeps the operation of its matchgate, from its first float on.
 pub const KEPT: usize = 40;
