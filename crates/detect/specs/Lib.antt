@@ -5,6 +5,7 @@ pub mod Emit
 pub mod Counts
 pub mod Kept
 pub mod Report
+pub mod Words
 pub mod Compile
 pub mod Questions
 pub mod Lending

@@ -1,4 +1,4 @@
-// The places of an operation, 18 of them, and how they are written.
+// The places of an operation, and how they are written.
 ghost use mathlib.Core.Path.{_≡_};
 ghost use Prim.Native.Nat.{_+_, _≤_};
 ghost use lib.ListN.{length, drop};
@@ -6,14 +6,12 @@ ghost use lib.Seq.{paste};
 ghost use Rattle.laws.specs.Bounds.{opPlaces};
 ghost use Rattle.detect.specs.Operation.{onePlaces, twoPlaces, interactionPlaces};
 use gate::Complex;
+pub use laws::OP_PLACES;
 use real::Map2;
 use real::Map4;
 
-// Places of an operation.
-pub const OP_PLACES: usize = 18;
-
 // The places of a map of mode k.
-pub fn one_places(k: u32, q: Map2) -> [f64; 18]
+pub fn one_places(k: u32, q: Map2) -> [f64; OP_PLACES]
     ensures { λ r. ⌜ r ≡ onePlaces k q ⌝ }
 {
     let k = k as f64;
@@ -40,7 +38,7 @@ pub fn one_places(k: u32, q: Map2) -> [f64; 18]
 }
 
 // The places of a map of the modes k and k + 1.
-pub fn two_places(k: u32, q: Map4) -> [f64; 18]
+pub fn two_places(k: u32, q: Map4) -> [f64; OP_PLACES]
     ensures { λ r. ⌜ r ≡ twoPlaces k q ⌝ }
 {
     let k = k as f64;
@@ -67,7 +65,7 @@ pub fn two_places(k: u32, q: Map4) -> [f64; 18]
 }
 
 // The places of an interaction of the modes i and j.
-pub fn interaction_places(i: u32, block: u32, j: u32, w: Complex) -> [f64; 18]
+pub fn interaction_places(i: u32, block: u32, j: u32, w: Complex) -> [f64; OP_PLACES]
     ensures { λ r. ⌜ r ≡ interactionPlaces i block j w ⌝ }
 {
     let i = i as f64;
@@ -108,7 +106,7 @@ pub fn copy(x: &[f64], a: usize, l: &mut [f64], p: usize)
 }
 
 // Writes an operation's places from p on.
-pub fn put(l: &mut [f64], p: usize, x: [f64; 18])
+pub fn put(l: &mut [f64], p: usize, x: [f64; OP_PLACES])
     requires { ⌜ (p + opPlaces ≤ length (now l)) × (length x ≡ opPlaces) ⌝ }
     ensures { λ _. ⌜ now (l .exit) ≡ paste (now (l .entry)) p x opPlaces ⌝ }
 {

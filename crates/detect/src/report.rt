@@ -3,8 +3,8 @@ ghost use mathlib.Core.Path.{_≡_};
 ghost use Rattle.detect.specs.Report.{fractionOf, writtenCount, exactOf, reportOf};
 ghost use Rattle.detect.specs.Questions.{refusal};
 use crate::count::Counts;
+use laws::MAX_QUBITS;
 use order::Ordering;
-use tape::MAX_QUBITS;
 
 // What the detector found. The tables have an entry for each qubit that there can be, and the first n count: the wire on each mode, whether a path
 // starts there, the mode of each qubit.

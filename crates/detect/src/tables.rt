@@ -6,7 +6,7 @@ ghost use Rattle.work.specs.Sizes.{recordMarks};
 ghost use Rattle.work.specs.Marks.{Records, column};
 ghost use Rattle.detect.specs.Report.{table};
 ghost use Rattle.detect.specs.Records.{qubitMode, ColumnBelow, QubitThere, QubitsThere};
-use tape::MAX_QUBITS;
+use laws::MAX_QUBITS;
 use work::CONTENT;
 use work::LAB;
 use work::POS;

@@ -2,7 +2,7 @@
 use mathlib.Core.Path.{_≡_, refl, sym, ap, _∙_, subst}
 use mathlib.Core.Bool.{Bool, true, false}
 use mathlib.Core.List.{List}
-use Prim.Native.Nat.{ℕ, _+_, _≤_, _<_}
+use Prim.Native.Nat.{ℕ, _+_, _*_, _≤_, _<_}
 use native.Mathlib.Omega.{arith}
 use lib.ListN.{length, getD}
 use lib.Seq.{getD-drop}
@@ -13,29 +13,31 @@ use Rattle.laws.proofs.Stores.{row-own, row-first}
 use Rattle.detect.specs.declared.report.Report.{Report}
 use Rattle.detect.specs.declared.report.Compiled.{Compiled}
 use Rattle.detect.specs.Questions.{numberOf}
+use Rattle.detect.specs.Words.{wordCount, tableCount, reportWords}
 use Rattle.order.proofs.Covers.{never}
 use Rattle.register.specs.Register.{registerBits}
 use Rattle.claim.specs.Queries.{answer, answers, Begins, RightAnswers}
 use Rattle.claim.proofs.Tables.{qubits-few}
 use Rattle.gaussian.specs.Claim.{leftBy, AnswersRight, RegisterClaim}
 use Rattle.engine.specs.Answers.{noRoom}
-use Rattle.engine.specs.Reports.{laid, reportWords, wordsWritten, tablesWritten, roomOf, Reports}
+use Rattle.engine.specs.Reports.{laid, wordsWritten, tablesWritten, roomOf, Reports}
 use Rattle.engine.specs.Claims.{leftIn, CallClaim}
 use Rattle.engine.proofs.Laid.{laid-long}
 use Rattle.engine.proofs.Room.{room-words, room-tables}
 
 -- ---- n and the modes, as they are read from the slices
 
-n-told : (r : Report) (w : List ℕ) → 14 ≤ length w → getD (wordsWritten r w) 0 0 ≡ r .n
+n-told : (r : Report) (w : List ℕ) → wordCount ≤ length w → getD (wordsWritten r w) 0 0 ≡ r .n
 unfolding wordsWritten reportWords
-n-told r w long = row-first 14 0 (λ k. getD (reportWords r) k 0) w 0 (omega arith) (omega arith)
+n-told r w long = row-first wordCount 0 (λ k. getD (reportWords r) k 0) w 0 (omega arith) (omega arith)
 
-mode-told : (r : Report) (l : List ℕ) → 384 ≤ length l → (q : ℕ) → q < 128 → getD (tablesWritten r l) (256 + q) 0 ≡ modeAt (r .modes) q
+mode-told : (r : Report) (l : List ℕ) → tableCount * maxQubits ≤ length l → (q : ℕ) → q < maxQubits
+    → getD (tablesWritten r l) (2 * maxQubits + q) 0 ≡ modeAt (r .modes) q
 unfolding tablesWritten
 mode-told r l long q less =
     let order = laid-long 0 (r .order) l _ maxQubits refl in
     let starts = laid-long maxQubits (r .starts) (laid maxQubits 0 (r .order) l) _ maxQubits refl in
-    row-own 128 256 (λ k. getD (r .modes) k 0) (laid maxQubits maxQubits (r .starts) (laid maxQubits 0 (r .order) l)) q 0 less
+    row-own maxQubits (2 * maxQubits) (λ k. getD (r .modes) k 0) (laid maxQubits maxQubits (r .starts) (laid maxQubits 0 (r .order) l)) q 0 less
     (omega (arith, order, starts))
 
 -- ---- the claim
@@ -44,7 +46,7 @@ module _ (t : List ℕ) (work : List Float) (marks : List ℕ) (ops state : List
     (claim : RegisterClaim answer t work marks ops state (leftBy c s)) where
   -- it does not turn on what stands behind the first n modes
   right-told : (x : ℕ) (words tables : List ℕ) → x ≡ numberOf (c .answer) → getD words 0 0 ≡ c .report .n
-      → ((q : ℕ) → q < maxQubits → getD tables (256 + q) 0 ≡ modeAt (c .report .modes) q) → AnswersRight answer t (leftIn x words tables s)
+      → ((q : ℕ) → q < maxQubits → getD tables (2 * maxQubits + q) 0 ≡ modeAt (c .report .modes) q) → AnswersRight answer t (leftIn x words tables s)
   right-told x words tables number n modes-are register e =
       let y = claim .right register (sym number ∙ e) in
       let few = qubits-few t (y .header) (y .content) (y .parsed) in record {
@@ -54,7 +56,7 @@ module _ (t : List ℕ) (work : List Float) (marks : List ℕ) (ops state : List
         right = λ modes lent qs.
             let table : Begins (y .header .n) (c .report .modes) modes = record {
               long = lent .long;
-              same = λ q l. lent .same q l ∙ getD-drop 256 tables q 0 ∙ modes-are q (omega (arith, l, few));
+              same = λ q l. lent .same q l ∙ getD-drop (2 * maxQubits) tables q 0 ∙ modes-are q (omega (arith, l, few));
             } in
             subst (λ (k : ℕ). RightAnswers (y .header .n) modes (registerBits (y .content .gates)) qs (answers answer k s modes qs)) (sym n)
             (y .right modes table qs);
@@ -74,7 +76,7 @@ claim-told t work marks ops state c s p w m l r p′ w′ m′ l′ tells claim 
         let tables : l′ ≡ tablesWritten (c .report) l = tells .tables ∙ rw room in
         let n = ap (λ l. getD l 0 0) words ∙ n-told (c .report) w (room-words (length p) (length w) (length m) (length l) room) in
         let modes = mode-told (c .report) l (room-tables (length p) (length w) (length m) (length l) room) in record {
-          right = right-told t work marks ops state c s (claim room) r w′ l′ number n (λ q k. ap (λ l. getD l (256 + q) 0) tables ∙ modes q k);
+          right = right-told t work marks ops state c s (claim room) r w′ l′ number n (λ q k. ap (λ l. getD l (2 * maxQubits + q) 0) tables ∙ modes q k);
           accepts = λ some h k e register plain f. number ∙ claim room .accepts h k e register plain f;
         }
     by false short =

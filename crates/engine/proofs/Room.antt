@@ -2,15 +2,17 @@
 use mathlib.Core.Path.{_≡_}
 use mathlib.Core.Bool.{true, false}
 use mathlib.Core.List.{List}
-use Prim.Native.Nat.{ℕ, _≤_}
+use Prim.Native.Nat.{ℕ, _*_, _≤_}
 use lib.Dec.{leb}
 use lib.ListN.{length, set}
 use lib.Ieee.{Float}
 use borrow.Author.Tests.{leb-true}
+use Rattle.laws.specs.Bounds.{maxQubits}
 use Rattle.laws.proofs.Tests.{and-left, and-right}
 use Rattle.state.specs.Answers.{Told}
 use Rattle.detect.specs.declared.report.Compiled.{Compiled}
 use Rattle.detect.specs.Questions.{numberOf, placeOf}
+use Rattle.detect.specs.Words.{wordCount, measureCount, tableCount}
 use Rattle.engine.specs.Answers.{noRoom, hasPlaces, Tells}
 use Rattle.engine.specs.Reports.{wordsWritten, measuresWritten, tablesWritten, hasReport, roomOf, Reports}
 
@@ -39,17 +41,17 @@ module _ (p w m t : ℕ) (room : hasReport p w m t ≡ true) where
   unfolding hasReport
   room-place = leb-true 1 p (and-left (leb 1 p) _ room)
 
-  pub room-words : 14 ≤ w
+  pub room-words : wordCount ≤ w
   unfolding hasReport
-  room-words = leb-true 14 w (and-left (leb 14 w) _ (and-right (leb 1 p) _ room))
+  room-words = leb-true wordCount w (and-left (leb wordCount w) _ (and-right (leb 1 p) _ room))
 
-  pub room-measures : 2 ≤ m
+  pub room-measures : measureCount ≤ m
   unfolding hasReport
-  room-measures = leb-true 2 m (and-left (leb 2 m) _ (and-right (leb 14 w) _ (and-right (leb 1 p) _ room)))
+  room-measures = leb-true measureCount m (and-left (leb measureCount m) _ (and-right (leb wordCount w) _ (and-right (leb 1 p) _ room)))
 
-  pub room-tables : 384 ≤ t
+  pub room-tables : tableCount * maxQubits ≤ t
   unfolding hasReport
-  room-tables = leb-true 384 t (and-right (leb 2 m) _ (and-right (leb 14 w) _ (and-right (leb 1 p) _ room)))
+  room-tables = leb-true (tableCount * maxQubits) t (and-right (leb measureCount m) _ (and-right (leb wordCount w) _ (and-right (leb 1 p) _ room)))
 
 module _ (c : Compiled) (p w : List ℕ) (m : List Float) (t : List ℕ) where
   pub reports-all : roomOf p w m t ≡ true

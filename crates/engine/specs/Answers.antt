@@ -9,16 +9,12 @@ use lib.ListN.{length, set}
 use lib.Ieee.{Float}
 use Rattle.tape.specs.declared.labels.Span.{Span}
 use Rattle.state.specs.Answers.{Told}
-use Rattle.engine.specs.declared.said.Said.{Said}
 
 -- the slice for an answer is too short
 abbrev pub noRoom : ℕ
 noRoom = 99
 
 -- ---- the state calls
-
-abbrev pub saidOf : Told → Said
-saidOf t = record { number = t .number; place = t .place; value = t .value }
 
 -- slices of these lengths have a place for the place and one for the value
 unfoldable pub hasPlaces : ℕ → ℕ → Bool

@@ -1,42 +1,19 @@
--- What `compile` and `run` return and write: number and place of a refusal, and the report as 14 words, 2 floats and a table of 384 entries.
--- Definitions only. A public promise rests on this.
+-- What `compile` and `run` return and write into slices: number and place of a refusal, and the report's words (crate `detect`), floats and tables, these
+-- one after the other. Definitions only. A public promise rests on this.
 use mathlib.Core.Path.{_≡_}
 use mathlib.Core.Bool.{Bool, cond, _&&_}
-use mathlib.Core.List.{List, [], _∷_}
+use mathlib.Core.List.{List}
 use Prim.Native.Nat.{ℕ, _*_}
 use lib.Dec.{leb}
 use lib.ListN.{length, getD, set}
 use lib.Ieee.{Float}
 use Rattle.laws.specs.Slices.{putRow}
 use Rattle.laws.specs.Bounds.{maxQubits}
-use Rattle.order.specs.Slice.{flag}
-use Rattle.order.specs.declared.choice.Ordering.{Ordering}
-use Rattle.order.specs.declared.choice.Ordering.the-variants.{Identity, Paths, Greedy}
 use Rattle.detect.specs.declared.report.Report.{Report}
 use Rattle.detect.specs.declared.report.Compiled.{Compiled}
 use Rattle.detect.specs.Questions.{numberOf, placeOf}
+use Rattle.detect.specs.Words.{wordCount, measureCount, tableCount, reportWords}
 use Rattle.engine.specs.Answers.{noRoom}
-
--- ---- the report
-
--- "an enum: identity, paths or greedy"
-abbrev pub orderingWord : Ordering → ℕ
-orderingWord Identity = 0
-orderingWord Paths = 1
-orderingWord Greedy = 2
-
--- counts first, then the flags, then the ordering
-unfoldable pub reportWords : Report → List ℕ
-reportWords r =
-    r .n ∷ r .blocks ∷ r .two ∷ r .gaussian ∷ r .bad ∷ r .nonadjacent ∷ r .interactions ∷ r .swaps ∷ r .operations
-    ∷ flag (r .conserving) ∷ flag (r .exact) ∷ flag (r .free) ∷ flag (r .angled) ∷ orderingWord (r .ordering)
-    ∷ []
-
--- ---- in slices
-
--- the words of a report
-abbrev pub wordCount : ℕ
-wordCount = 14
 
 -- the n entries of t from place a on
 abbrev pub laid : ℕ → ℕ → List ℕ → List ℕ → List ℕ
@@ -55,7 +32,8 @@ tablesWritten r l =
 
 -- slices of these lengths have room for the place and the report
 unfoldable pub hasReport : ℕ → ℕ → ℕ → ℕ → Bool
-hasReport place report measures tables = leb 1 place && (leb wordCount report && (leb 2 measures && leb (3 * maxQubits) tables))
+hasReport place report measures tables =
+    leb 1 place && (leb wordCount report && (leb measureCount measures && leb (tableCount * maxQubits) tables))
 
 -- the same, of the slices
 abbrev pub roomOf : List ℕ → List ℕ → List Float → List ℕ → Bool

@@ -8,9 +8,9 @@ ghost use Rattle.queries.specs.Calls.{expectationZProductOf, expectationZProduc
 ghost use Rattle.engine.specs.Answers.{noRoom, hasPlaces, Tells};
 use crate::said::NO_ROOM;
 use crate::said::has_places;
-use crate::said::say;
-use crate::said::say_applied;
 use crate::said::tell;
+use state::told_answer;
+use state::told_applied;
 
 // The operation in `op` is applied to the state.
 #[no_mangle]
@@ -18,8 +18,8 @@ pub extern "C" fn jozkeral_apply(n: usize, state: &mut [f64], modes: &[u16], op:
     ensures number { λ r. ⌜ r ≡ applyAnswer n (now (state .entry)) (now (modes .entry)) (now (op .entry)) .number ⌝ }
     ensures state { λ _. ⌜ now (state .exit) ≡ applyState n (now (state .entry)) (now (modes .entry)) (now (op .entry)) ⌝ }
 {
-    let s = say_applied(state::apply(n, state, modes, op));
-    s.number
+    let t = told_applied(state::apply(n, state, modes, op));
+    t.number
 }
 
 // Z of one qubit.
@@ -135,9 +135,9 @@ pub extern "C" fn jozkeral_probability(
     if answer.len() < 1 {
         return NO_ROOM;
     }
-    let s = say(queries::probability(n, state, modes, low, high, work));
-    answer[0] = s.value;
-    s.number
+    let t = told_answer(queries::probability(n, state, modes, low, high, work));
+    answer[0] = t.value;
+    t.number
 }
 
 // Shots of every qubit, from the draws in their order.
@@ -167,7 +167,7 @@ pub extern "C" fn jozkeral_sample(
     if place.len() < 1 {
         return NO_ROOM;
     }
-    let s = say_applied(queries::sample(n, state, modes, shots, draws, work, out));
-    place[0] = s.place;
-    s.number
+    let t = told_applied(queries::sample(n, state, modes, shots, draws, work, out));
+    place[0] = t.place;
+    t.number
 }

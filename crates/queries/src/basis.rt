@@ -10,8 +10,8 @@ ghost use Rattle.queries.specs.Basis.{wordBits, wordBit, basisBitOf, bas
 ghost use Rattle.queries.specs.Calls.{probabilityOf, probabilityWork};
 ghost use Rattle.queries.specs.Inner.{Marked};
 use super::marginals::marked_probability;
+use laws::MAX_QUBITS;
 use state::Answer;
-use state::MAX_QUBITS;
 use state::Refusal;
 use state::mode_at;
 use state::state_ok;

@@ -14,8 +14,8 @@ use super::lists::list_modes;
 use super::lists::note_bits;
 use super::matrices::ask;
 use super::matrices::pfaffian_cleared;
+use laws::MAX_QUBITS;
 use state::Answer;
-use state::MAX_QUBITS;
 use state::Refusal;
 use state::state_ok;
 

@@ -12,8 +12,8 @@ use super::lists::list_modes;
 use super::lists::mark_odd;
 use super::matrices::pfaffian_cleared;
 use super::matrices::restrict;
+use laws::MAX_QUBITS;
 use state::Answer;
-use state::MAX_QUBITS;
 use state::Refusal;
 use state::state_ok;
 

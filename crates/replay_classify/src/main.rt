@@ -8,7 +8,6 @@ use classify::Rotation;
 use gate::Complex;
 use gate::Mat4;
 use gate::Row4;
-use libc::STDOUT_FILENO;
 use real::Map2;
 use real::Map4;
 use real::Real4;
@@ -314,12 +313,11 @@ fn agrees(what: u64, s: &[u8]) -> Tally {
     stored::tally_of(phases_agree(what, s))
 }
 
-// A list has fewer than 1,024 records.
 fn count(s: &[u8], what: u64) -> Tally {
     let mut t = stored::nothing();
     let mut at = 0;
     let mut k: usize = 0;
-    while k < 1024 {
+    while k < stored::MAX_RECORDS {
         let r = stored::record_at(s, at, words(stored::tag_at(s, at)));
         let from = r.from;
         let to = r.to;
@@ -336,17 +334,9 @@ fn count(s: &[u8], what: u64) -> Tally {
 }
 
 fn replay(path: &[u8]) {
-    let fd = os::open_read(path);
-    if fd < 0 {
-        os::fail(path);
-        return;
-    }
     let mut space = io::large_buffer();
-    let n = io::read_full(fd, &mut space);
-    libc::close(fd);
+    let n = stored::named_list(path, &mut space);
     let s = &space[..n];
-    io::write_all(STDOUT_FILENO, path);
-    io::write_all(STDOUT_FILENO, b"\n");
     stored::print_tally(b"majorana_map1", count(s, MAP1));
     stored::print_tally(b"commutes_j2", count(s, COMMUTES));
     stored::print_tally(b"majorana_map2", count(s, MAP2));

@@ -1,9 +1,12 @@
 // Replays the stored tapes through `compile` and prints how many answers agree with those of the original: the number and the place of a refusal, every
 // field of the report, every place of the operation slice, and what is left in the lent work.
 ghost use Prim.Native.Nat.{_≤_};
+ghost use Rattle.laws.specs.Bounds.{maxQubits};
 use detect::Answer;
+use detect::REPORT_MEASURES;
+use detect::REPORT_WORDS;
 use detect::Report;
-use libc::STDOUT_FILENO;
+use laws::MAX_QUBITS;
 use stored::Tally;
 
 // Comparisons.
@@ -25,20 +28,26 @@ const ANSWER: usize = 5;
 
 const REPORT: usize = 7;
 
-const TABLE: usize = 23;
+const MEASURES: usize = REPORT + REPORT_WORDS;
+
+const TABLE: usize = MEASURES + REPORT_MEASURES;
+
+// Places of the largest operation slice.
+const PLACES: usize = 1024;
 
 // ---- the answer
 
 fn answer_agrees(a: Answer, s: &[u8]) -> bool {
-    let told = stored_report::of_answer(a);
+    let told = [detect::answer_number(a), detect::answer_place(a)];
     stored::words_hold(&told, s, ANSWER)
 }
 
 // ---- the report
 
 fn report_agrees(r: Report, s: &[u8]) -> bool {
-    let told = stored_report::of_report(r);
-    stored::words_hold(&told, s, REPORT)
+    let words = detect::report_words(r);
+    let measures = [r.fraction, r.residual];
+    stored::words_hold(&words, s, REPORT) && stored::holds(&measures, s, MEASURES)
 }
 
 // Word i of a table of n entries; 0 beyond it.
@@ -61,7 +70,7 @@ fn table_agrees(v: &[u16], s: &[u8], first: usize, n: usize) -> bool {
 }
 
 fn tables_agree(r: Report, s: &[u8], n: usize) -> bool
-    requires { ⌜ n ≤ 128 ⌝ }
+    requires { ⌜ n ≤ maxQubits ⌝ }
 {
     let order = r.order;
     let starts = r.starts;
@@ -104,7 +113,7 @@ fn compiled_agrees(
 ) -> Tally {
     let c = detect::compile(tape, w, u, ops);
     let n = stored::word(s, REPORT) as usize;
-    if 128 < n {
+    if MAX_QUBITS < n {
         return stored::tally_of(false);
     }
     if what == ANSWERS {
@@ -155,34 +164,32 @@ fn lent_agrees(
     )
 }
 
-// Room for 1,024 gates on 128 qubits.
+// Every place is 7 before the call.
 fn tape_agrees(what: u64, tape: &[u8], s: &[u8]) -> Tally {
-    let mut w = [7.0; 73760];
-    let mut u: [u32; 36880] = [7; 36880];
-    let mut ops = [7.0; 1024];
+    let mut w = [7.0; stored::FLOATS];
+    let mut u: [u32; stored::MARKS] = [7; stored::MARKS];
+    let mut ops = [7.0; PLACES];
     lent_agrees(what, tape, &mut w, &mut u, &mut ops, s)
 }
 
 // A record: the length of the tape, the number of words after this one, the tape, the answer.
 fn agrees(what: u64, s: &[u8]) -> Tally {
-    let size = stored::word(s, 0) as usize;
-    if 60000 < size {
-        return stored::tally_of(false);
+    let part = stored::tape_part(s);
+    let from = part.from;
+    let to = part.to;
+    let after = part.after;
+    if part.there {
+        return tape_agrees(what, &s[from..to], &s[after..]);
     }
-    let whole = 8 * ((size + 7) / 8);
-    if s.len() < 16 + whole {
-        return stored::tally_of(false);
-    }
-    tape_agrees(what, &s[16..16 + size], &s[16 + whole..])
+    stored::tally_of(false)
 }
 
-// A list has fewer than 1,024 records.
 fn count(s: &[u8], what: u64) -> Tally {
     let mut t = stored::nothing();
     let mut at = 0;
     let mut k: usize = 0;
-    while k < 1024 {
-        let r = stored::record_at(s, at, stored::size_at(s, at, 1));
+    while k < stored::MAX_RECORDS {
+        let r = stored::sized_at(s, at, 1);
         let from = r.from;
         let to = r.to;
         if r.tag == 0 {
@@ -196,17 +203,9 @@ fn count(s: &[u8], what: u64) -> Tally {
 }
 
 fn replay(path: &[u8]) {
-    let fd = os::open_read(path);
-    if fd < 0 {
-        os::fail(path);
-        return;
-    }
     let mut space = io::large_buffer();
-    let n = io::read_full(fd, &mut space);
-    libc::close(fd);
+    let n = stored::named_list(path, &mut space);
     let s = &space[..n];
-    io::write_all(STDOUT_FILENO, path);
-    io::write_all(STDOUT_FILENO, b"\n");
     stored::print_tally(b"numbers and places", count(s, ANSWERS));
     stored::print_tally(b"reports", count(s, REPORTS));
     stored::print_tally(b"tables", count(s, TABLES));

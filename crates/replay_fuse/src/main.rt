@@ -7,7 +7,6 @@ ghost use lib.ListN.{length};
 ghost use Rattle.work.specs.Marks.{Records};
 ghost use Rattle.fuse.specs.Layout.{Space};
 ghost use Rattle.fuse.specs.Slotted.{Gates};
-use libc::STDOUT_FILENO;
 use stored::Tally;
 use tape::Checked;
 
@@ -27,6 +26,10 @@ const MATRICES: u64 = 4;
 
 // Gates and qubits of a stored tape together at most.
 const ROOM: usize = 128;
+
+const FLOATS: usize = work::RECORD_FLOATS * ROOM;
+
+const MARKS: usize = work::RECORD_MARKS * ROOM;
 
 // ---- items
 
@@ -63,7 +66,7 @@ fn item_agrees(what: u64, w: &[f64], u: &[u32], k: usize, kind: u32, s: &[u8]) -
         return stored::nothing();
     }
     if what == RESIDUALS {
-        return stored::tally_of(stored::is(w[64 * k + 32], s, 8));
+        return stored::tally_of(stored::is(w[work::RECORD_FLOATS * k + work::RESIDUAL], s, 8));
     }
     if s.len() < 272 {
         return stored::tally_of(false);
@@ -80,8 +83,8 @@ fn size_of(kind: u32, exact: bool) -> usize
     }
     if exact {
         return match kind {
-            4 => 72,
-            9 => 8,
+            work::ONE_ITEM => 72,
+            work::OPAQUE_ITEM => 8,
             _ => 272,
         };
     }
@@ -182,8 +185,8 @@ fn fused_agrees(
     if s.len() < 24 + 16 * n {
         return stored::tally_of(false);
     }
-    let mut w = [0.0; 8192];
-    let mut u: [u32; 4096] = [0; 4096];
+    let mut w = [0.0; FLOATS];
+    let mut u: [u32; MARKS] = [0; MARKS];
     let t = fuse_tape(tape, &mut w, &mut u, g, n, relabel, tol);
     if what == COUNTS {
         return stored::tally_of(counts_agree(t, s));
@@ -220,24 +223,22 @@ fn tape_agrees(what: u64, exact: bool, tape: &[u8], s: &[u8]) -> Tally {
 
 // A record: the length of the tape, the number of words after this one, the tape, the answer.
 fn agrees(what: u64, exact: bool, s: &[u8]) -> Tally {
-    let size = stored::word(s, 0) as usize;
-    if 60000 < size {
-        return stored::tally_of(false);
+    let part = stored::tape_part(s);
+    let from = part.from;
+    let to = part.to;
+    let after = part.after;
+    if part.there {
+        return tape_agrees(what, exact, &s[from..to], &s[after..]);
     }
-    let whole = 8 * ((size + 7) / 8);
-    if s.len() < 16 + whole {
-        return stored::tally_of(false);
-    }
-    tape_agrees(what, exact, &s[16..16 + size], &s[16 + whole..])
+    stored::tally_of(false)
 }
 
-// A list has fewer than 1,024 records.
 fn count(s: &[u8], what: u64) -> Tally {
     let mut t = stored::nothing();
     let mut at = 0;
     let mut k: usize = 0;
-    while k < 1024 {
-        let r = stored::record_at(s, at, stored::size_at(s, at, 1));
+    while k < stored::MAX_RECORDS {
+        let r = stored::sized_at(s, at, 1);
         let from = r.from;
         let to = r.to;
         if r.tag == 0 {
@@ -251,17 +252,9 @@ fn count(s: &[u8], what: u64) -> Tally {
 }
 
 fn replay(path: &[u8]) {
-    let fd = os::open_read(path);
-    if fd < 0 {
-        os::fail(path);
-        return;
-    }
     let mut space = io::large_buffer();
-    let n = io::read_full(fd, &mut space);
-    libc::close(fd);
+    let n = stored::named_list(path, &mut space);
     let s = &space[..n];
-    io::write_all(STDOUT_FILENO, path);
-    io::write_all(STDOUT_FILENO, b"\n");
     stored::print_tally(b"counts of swaps and cuts", count(s, COUNTS));
     stored::print_tally(b"slots and wires", count(s, SLOTS));
     stored::print_tally(b"kinds of items", count(s, KINDS));

@@ -231,14 +231,8 @@ fn print_matrices(s: &[u8]) {
 }
 
 fn replay(path: &[u8]) {
-    let fd = os::open_read(path);
-    if fd < 0 {
-        os::fail(path);
-        return;
-    }
     let mut space = io::large_buffer();
-    let n = io::read_full(fd, &mut space);
-    libc::close(fd);
+    let n = stored::read_list(path, &mut space);
     let s = &space[..n];
     print_numbers(s);
     print_matrices(s);

@@ -2,16 +2,14 @@
 // bit, with the stored ones, and of each kind the first that does not.
 mod tapes; // tapes.rt: a tape run in lent slices
 
-use libc::STDOUT_FILENO;
 use stored_queries::counts;
 use stored_queries::counts::Counts;
 
-// A list has fewer than 1,024 records.
 fn count(s: &[u8], counts: &mut Counts) {
     let mut at = 0;
     let mut k: usize = 0;
-    while k < 1024 {
-        let r = stored::record_at(s, at, stored::size_at(s, at, 1));
+    while k < stored::MAX_RECORDS {
+        let r = stored::sized_at(s, at, 1);
         let from = r.from;
         let to = r.to;
         if r.tag == 0 {
@@ -24,18 +22,10 @@ fn count(s: &[u8], counts: &mut Counts) {
 }
 
 fn replay(path: &[u8]) {
-    let fd = os::open_read(path);
-    if fd < 0 {
-        os::fail(path);
-        return;
-    }
     let mut space = io::large_buffer();
-    let n = io::read_full(fd, &mut space);
-    libc::close(fd);
-    let mut counts: Counts = [0; 48];
+    let n = stored::named_list(path, &mut space);
+    let mut counts: Counts = [0; counts::ENTRIES];
     count(&space[..n], &mut counts);
-    io::write_all(STDOUT_FILENO, path);
-    io::write_all(STDOUT_FILENO, b"\n");
     counts::print(&counts);
 }
 

@@ -1,5 +1,7 @@
 // A tape run in lent slices, and what it answers and leaves there beside the words of its record.
 use detect::Answer;
+use detect::REPORT_MEASURES;
+use detect::REPORT_WORDS;
 use detect::Report;
 use stored_queries::asked;
 use stored_queries::counts::*;
@@ -16,16 +18,26 @@ const ANSWER: usize = 6;
 
 const REPORT: usize = 8;
 
-const TABLE: usize = 24;
+const MEASURES: usize = REPORT + REPORT_WORDS;
+
+const TABLE: usize = MEASURES + REPORT_MEASURES;
+
+// An unpacked record has at most so many words.
+const WORDS: usize = 90000;
 
 fn answer_compared(a: Answer, words: &[u64]) -> Compared {
-    let told = stored_report::of_answer(a);
+    let told = [detect::answer_number(a), detect::answer_place(a)];
     numbers(&told, words, ANSWER)
 }
 
 fn report_compared(r: Report, words: &[u64]) -> Compared {
-    let told = stored_report::of_report(r);
-    numbers(&told, words, REPORT)
+    let told = detect::report_words(r);
+    let measures = [r.fraction, r.residual];
+    let c = numbers(&told, words, REPORT);
+    match c {
+        Compared::Same => after(REPORT_WORDS, floats(&measures, words, MEASURES)),
+        Compared::Differs(_) => c,
+    }
 }
 
 fn work_compared(w: &[f64], u: &[u32], words: &[u64]) -> Compared {
@@ -124,12 +136,12 @@ fn lent(
     );
 }
 
-// Room for 1,024 gates on 128 qubits; every place is 7 before the run.
+// Every place is 7 before the run.
 fn run_tape(tape: &[u8], words: &[u64], k: u64, counts: &mut Counts) {
-    let mut w = [7.0; 73760];
-    let mut u: [u32; 36880] = [7; 36880];
-    let mut ops = [7.0; 18440];
-    let mut state = [7.0; 65800];
+    let mut w = [7.0; stored::FLOATS];
+    let mut u: [u32; stored::MARKS] = [7; stored::MARKS];
+    let mut ops = [7.0; stored::PLACES];
+    let mut state = [7.0; stored::STATE];
     lent(tape, &mut w, &mut u, &mut ops, &mut state, words, k, counts);
 }
 
@@ -152,14 +164,13 @@ fn body(tape: &[u8], s: &[u8], words: &mut [u64], k: u64, counts: &mut Counts) {
 
 // Record k of a list: the length of the tape, the number of words after this one, the tape, the number of packed words, these.
 pub fn compare(s: &[u8], k: u64, counts: &mut Counts) {
-    let size = stored::word(s, 0) as usize;
-    if 60000 < size {
-        return unreadable(k, counts);
+    let part = stored::tape_part(s);
+    let from = part.from;
+    let to = part.to;
+    let after = part.after;
+    if part.there {
+        let mut words: [u64; WORDS] = [0; WORDS];
+        return body(&s[from..to], &s[after..], &mut words, k, counts);
     }
-    let whole = 8 * ((size + 7) / 8);
-    if s.len() < 16 + whole {
-        return unreadable(k, counts);
-    }
-    let mut words: [u64; 90000] = [0; 90000];
-    body(&s[16..16 + size], &s[16 + whole..], &mut words, k, counts);
+    unreadable(k, counts);
 }

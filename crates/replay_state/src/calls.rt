@@ -7,27 +7,28 @@ use super::asked::zz_agrees;
 use super::slices::load;
 use super::slices::load_modes;
 use super::tags::*;
+use laws::OP_PLACES;
 use state::Answer;
 use state::Applied;
+use state::Told;
 use stored::holds;
-use stored_calls::Told;
 
-const OP_PLACES: usize = 20; // of the largest operation slice
+const PLACES: usize = OP_PLACES + 2; // of the largest operation slice
 
 // Number, place and value from word i on; what is not there reads as 0.
 fn told_agrees(t: Told, s: &[u8], i: usize) -> bool {
     if t.number == stored::word(s, i) && t.place == stored::word_from(s, i, 1) {
-        return t.value == stored::word_from(s, i, 2);
+        return num::to_bits(t.value) == stored::word_from(s, i, 2);
     }
     false
 }
 
 pub fn applied_agrees(a: Applied, s: &[u8], i: usize) -> bool {
-    told_agrees(stored_calls::of_applied(a), s, i)
+    told_agrees(state::told_applied(a), s, i)
 }
 
 pub fn answer_agrees(a: Answer, s: &[u8], i: usize) -> bool {
-    told_agrees(stored_calls::of_answer(a), s, i)
+    told_agrees(state::told_answer(a), s, i)
 }
 
 fn apply_read(n: usize, v: &mut [f64], modes: &[u16], op: &mut [f64], s: &[u8]) -> bool {
@@ -41,7 +42,7 @@ fn apply_read(n: usize, v: &mut [f64], modes: &[u16], op: &mut [f64], s: &[u8]) 
 }
 
 fn apply_agrees(n: usize, v: &mut [f64], modes: &[u16], s: &[u8]) -> bool {
-    let mut op = [0.0; OP_PLACES];
+    let mut op = [0.0; PLACES];
     apply_read(n, v, modes, &mut op, s)
 }
 

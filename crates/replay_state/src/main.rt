@@ -1,6 +1,5 @@
 // Replays the stored states and calls, and prints how many answers, slices and outputs agree, bit for bit,
 // with what the proved functions compute. A record is a tag, the number of words that follow, and the words.
-use libc::STDOUT_FILENO;
 use stored::Tally;
 
 mod tags; // tags.rt: the tags of records
@@ -15,6 +14,8 @@ const PLACES: usize = 288; // of the largest state
 
 const QUBITS: usize = 8; // of the largest mode table
 
+const RECORDS: usize = 4096; // a list has fewer
+
 fn counted(wanted: bool, good: bool) -> Tally {
     if wanted {
         return stored::tally_of(good);
@@ -22,14 +23,14 @@ fn counted(wanted: bool, good: bool) -> Tally {
     stored::nothing()
 }
 
-// A list has fewer than 4,096 records. The state that the calls are on stands in `space` and `table`.
+// The state that the calls are on stands in `space` and `table`.
 fn count(s: &[u8], what: u64, space: &mut [f64], table: &mut [u16]) -> Tally {
     let mut t = stored::nothing();
     let mut sizes = calls::no_state();
     let mut at = 0;
     let mut k: usize = 0;
-    while k < 4096 {
-        let r = stored::record_at(s, at, stored::size_at(s, at, 0));
+    while k < RECORDS {
+        let r = stored::sized_at(s, at, 0);
         let from = r.from;
         let to = r.to;
         if r.tag == 0 {
@@ -51,17 +52,9 @@ fn print_count(s: &[u8], what: u64, name: &[u8]) {
 }
 
 fn replay(path: &[u8]) {
-    let fd = os::open_read(path);
-    if fd < 0 {
-        os::fail(path);
-        return;
-    }
     let mut space = io::large_buffer();
-    let n = io::read_full(fd, &mut space);
-    libc::close(fd);
+    let n = stored::named_list(path, &mut space);
     let s = &space[..n];
-    io::write_all(STDOUT_FILENO, path);
-    io::write_all(STDOUT_FILENO, b"\n");
     print_count(s, APPLY, b"apply");
     print_count(s, HOLDS, b"states");
     print_count(s, Z, b"expectation_z");

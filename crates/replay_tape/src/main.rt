@@ -237,14 +237,8 @@ fn print_line(s: &[u8], file: &[u8], tag: usize, of_label: bool, name: &[u8]) {
 }
 
 fn replay(path: &[u8]) {
-    let fd = os::open_read(path);
-    if fd < 0 {
-        os::fail(path);
-        return;
-    }
     let mut space = io::large_buffer();
-    let n = io::read_full(fd, &mut space);
-    libc::close(fd);
+    let n = stored::read_list(path, &mut space);
     let s = &space[..n];
     print_line(s, path, CHECK, false, b" check_tape ");
     print_line(s, path, CHECK, true, b" label ");

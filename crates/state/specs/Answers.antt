@@ -9,12 +9,11 @@ use Rattle.state.specs.declared.answer.Applied.{Applied}
 use Rattle.state.specs.declared.answer.Applied.the-variants as applied
 use Rattle.state.specs.declared.answer.Answer.{Answer}
 use Rattle.state.specs.declared.answer.Answer.the-variants as answer
+use Rattle.state.specs.declared.told.Told as struct
 
--- the question whose answer is no, 0 if there is none; the place; the number asked for
-pub record Told : Type 0 where
-  pub number : ℕ
-  pub place : ℕ
-  pub value : Float
+-- the question whose answer is no, 0 if there is none; the place; the number asked for: the code's own struct
+abbrev pub Told : Type 0
+Told = struct.Told
 
 abbrev pub accepted : Float → Told
 accepted x = record { number = 0; place = 0; value = x }

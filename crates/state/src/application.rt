@@ -9,9 +9,9 @@ use super::answer::Applied;
 use super::answer::Refusal;
 use super::check::state_ok;
 use super::operation::Decoded;
-use super::operation::OP_PLACES;
 use super::operation::Operation;
 use super::operation::decode;
+use laws::OP_PLACES;
 use local::apply_local2;
 use local::apply_local4;
 

@@ -11,8 +11,7 @@ ghost use Rattle.laws.specs.Bounds.{maxQubits};
 ghost use Rattle.state.specs.Modes.{modeOk, isPermutation};
 ghost use Rattle.state.specs.Questions.{stateOk};
 ghost use Rattle.state.specs.Parts.{NoMarks, Marked};
-
-pub const MAX_QUBITS: usize = 128;
+use laws::MAX_QUBITS;
 
 const WORD: usize = 64; // bits of a word
 

@@ -7,6 +7,7 @@ mod application; // an operation applied to the state
 mod check; // question 16
 mod expectation; // an entry of the covariance, and Z of one qubit
 mod operation; // operations, decoded from their places
+mod told; // answers as plain numbers
 pub mod vacuum; // the first state: for the crates above, like those named last
 
 // for users
@@ -15,9 +16,12 @@ pub use answer::Applied;
 pub use answer::Refusal;
 pub use application::apply;
 pub use expectation::expectation_z;
+pub use told::Told;
+pub use told::told_answer;
+pub use told::told_applied;
+pub use told::told_refusal;
 // for the crates above, which meet what they require
 pub use application::apply_places;
-pub use check::MAX_QUBITS;
 pub use check::mode_at;
 pub use check::state_ok;
 pub use expectation::covariance;

@@ -11,8 +11,6 @@ use real::Map4;
 use real::Real2;
 use real::Real4;
 
-pub const OP_PLACES: usize = 18; // places of an operation
-
 // The unit of an interaction's phase.
 pub struct Unit {
     pub re: f64,

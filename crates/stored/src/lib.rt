@@ -1,6 +1,8 @@
 // Stored results, for the programs that replay them. A list is a file of words of eight bytes, the lowest
 // first; a record is a tag and what follows it; the tag 0 ends the list. Floats are stored by their bits,
 // every NaN by one pattern. docs/TESTING.md says how the lists were made.
+mod lists; // lists.rt: a list read, its records, the tape of a record
+mod rooms; // rooms.rt: how long the slices are that a stored call is lent
 mod slices; // slices.rt: slices beside the words of a record
 
 ghost use Prim.Native.Nat.{_+_, _≤_};
@@ -10,6 +12,21 @@ use gate::Mat2;
 use gate::Mat4;
 use gate::Row4;
 use libc::STDOUT_FILENO;
+pub use lists::MAX_RECORDS;
+pub use lists::Record;
+pub use lists::TapePart;
+pub use lists::named_list;
+pub use lists::read_list;
+pub use lists::record_at;
+pub use lists::sized_at;
+pub use lists::tag_at;
+pub use lists::tape_part;
+pub use lists::word;
+pub use rooms::FLOATS;
+pub use rooms::MARKS;
+pub use rooms::PLACES;
+pub use rooms::STATE;
+pub use rooms::WORK;
 pub use slices::holds;
 pub use slices::marked;
 pub use slices::word_from;
@@ -57,76 +74,6 @@ pub fn is_mat4(m: Mat4, s: &[u8], at: usize) -> bool
     } else {
         false
     }
-}
-
-// Word i of a record; 0 beyond its end.
-pub fn word(s: &[u8], i: usize) -> u64 {
-    if 8192 <= i {
-        return 0;
-    }
-    tag_at(s, 8 * i)
-}
-
-// A record of a list: its tag and where what follows the tag stands. Tag 0 where the list ends.
-pub struct Record {
-    pub tag: u64,
-    pub from: usize,
-    pub to: usize,
-}
-
-// The tag at a place; 0 beyond the end.
-pub fn tag_at(s: &[u8], at: usize) -> u64 {
-    if s.len() < 8 {
-        return 0;
-    }
-    if s.len() - 8 < at {
-        return 0;
-    }
-    num::u64_at(s, at)
-}
-
-// The record at a place, where `words` words follow the tag; the end where they are not there.
-pub fn record_at(s: &[u8], at: usize, words: usize) -> Record
-    requires { ⌜ words ≤ 65536 ⌝ }
-    ensures { λ r. ⌜ (r .from ≤ r .to) × (r .to ≤ length (now (s .entry))) ⌝ }
-{
-    if s.len() < 8 {
-        return Record {
-            tag: 0,
-            from: 0,
-            to: 0,
-        };
-    }
-    if s.len() - 8 < at {
-        return Record {
-            tag: 0,
-            from: 0,
-            to: 0,
-        };
-    }
-    let from = at + 8;
-    if s.len() - from < 8 * words {
-        return Record {
-            tag: 0,
-            from: 0,
-            to: 0,
-        };
-    }
-    let tag = num::u64_at(s, at);
-    Record {
-        tag,
-        from,
-        to: from + 8 * words,
-    }
-}
-
-// How many words follow the tag at a place: `before` of them, the number of those after it, and these. 0 if they are too many.
-pub fn size_at(s: &[u8], at: usize, before: usize) -> usize
-    requires { ⌜ before ≤ 8 ⌝ }
-    ensures { λ r. ⌜ r ≤ 65536 ⌝ }
-{
-    let last = tag_at(s, std::num::wrapping_add_usize(at, 8 + 8 * before)) as usize;
-    if last < 65000 { last + before + 1 } else { 0 }
 }
 
 // How many comparisons there are, and how many agree.

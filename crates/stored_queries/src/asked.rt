@@ -3,12 +3,21 @@
 // before a call.
 use super::counts::*;
 use super::slices::*;
-use stored_calls::Told;
+use laws::MAX_QUBITS;
+use state::Told;
+
+// Entries of the longest list of a query, its draws too, and words of the largest output.
+const LISTED: usize = 2 * MAX_QUBITS;
+
+const OUT: usize = 64;
+
+// A tape has fewer queries.
+const QUERIES: usize = 256;
 
 // Number, place and value from word i on.
 fn told(t: Told, words: &[u64], i: usize) -> bool {
     if t.number == word_from(words, i, 0) && t.place == word_from(words, i, 1) {
-        return t.value == word_from(words, i, 2);
+        return num::to_bits(t.value) == word_from(words, i, 2);
     }
     false
 }
@@ -21,7 +30,7 @@ fn worked(t: Told, work: &[f64], words: &[u64], i: usize) -> bool {
 
 fn z(n: usize, v: &[f64], modes: &[u16], words: &[u64], i: usize) -> bool {
     let a = state::expectation_z(n, v, modes, size_from(words, i, 0));
-    told(stored_calls::of_answer(a), words, plus(i, 1))
+    told(state::told_answer(a), words, plus(i, 1))
 }
 
 fn zz(n: usize, v: &[f64], modes: &[u16], work: &mut [f64], words: &[u64], i: usize) -> bool {
@@ -38,7 +47,7 @@ fn zz(n: usize, v: &[f64], modes: &[u16], work: &mut [f64], words: &[u64], i: us
         size_from(words, i, 1),
         &mut work[0..w],
     );
-    worked(stored_calls::of_answer(a), work, words, after)
+    worked(state::told_answer(a), work, words, after)
 }
 
 fn product_of(
@@ -61,11 +70,11 @@ fn product_of(
         return false;
     }
     let a = queries::expectation_z_product(n, v, modes, &list[0..k], &mut work[0..w]);
-    worked(stored_calls::of_answer(a), work, words, after)
+    worked(state::told_answer(a), work, words, after)
 }
 
 fn product(n: usize, v: &[f64], modes: &[u16], work: &mut [f64], words: &[u64], i: usize) -> bool {
-    let mut list = [0usize; 256];
+    let mut list = [0usize; LISTED];
     product_of(n, v, modes, &mut list, work, words, i)
 }
 
@@ -97,12 +106,12 @@ fn marginal_of(
         return false;
     }
     let a = queries::marginal_probability(n, v, modes, &list[0..k], &bits[0..b], &mut work[0..w]);
-    worked(stored_calls::of_answer(a), work, words, after)
+    worked(state::told_answer(a), work, words, after)
 }
 
 fn marginal(n: usize, v: &[f64], modes: &[u16], work: &mut [f64], words: &[u64], i: usize) -> bool {
-    let mut list = [0usize; 256];
-    let mut bits = [0u8; 256];
+    let mut list = [0usize; LISTED];
+    let mut bits = [0u8; LISTED];
     marginal_of(n, v, modes, &mut list, &mut bits, work, words, i)
 }
 
@@ -127,7 +136,7 @@ fn probability(
         word_from(words, i, 1),
         &mut work[0..w],
     );
-    worked(stored_calls::of_answer(a), work, words, after)
+    worked(state::told_answer(a), work, words, after)
 }
 
 // The output's words stand after the answer.
@@ -165,13 +174,13 @@ fn sample_of(
         &mut work[0..w],
         &mut out[0..o],
     );
-    worked(stored_calls::of_applied(a), work, words, after)
+    worked(state::told_applied(a), work, words, after)
         && is_words(&out[0..o], words, plus(after, 5))
 }
 
 fn sample(n: usize, v: &[f64], modes: &[u16], work: &mut [f64], words: &[u64], i: usize) -> bool {
-    let mut draws = [0.0; 256];
-    let mut out = [7u64; 64];
+    let mut draws = [0.0; LISTED];
+    let mut out = [7u64; OUT];
     sample_of(n, v, modes, &mut draws, &mut out, work, words, i)
 }
 
@@ -206,13 +215,12 @@ fn query(
     false
 }
 
-// Room for 128 modes.
 fn answered(kind: usize, n: usize, v: &[f64], modes: &[u16], words: &[u64], i: usize) -> bool {
-    let mut work = [7.0; 65600];
+    let mut work = [7.0; stored::WORK];
     query(kind, n, v, modes, &mut work, words, i)
 }
 
-// The queries from word `first` on, up to a tag 0; a tape has fewer than 256.
+// The queries from word `first` on, up to a tag 0.
 pub fn compare(
     n: usize,
     v: &[f64],
@@ -224,7 +232,7 @@ pub fn compare(
 ) {
     let mut i = first;
     let mut k: usize = 0;
-    while k < 256 {
+    while k < QUERIES {
         let kind = size_from(words, i, 0);
         if kind == 0 {
             return;

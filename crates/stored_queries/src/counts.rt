@@ -31,12 +31,24 @@ pub const KINDS: usize = 12;
 // The numbers of a kind: comparisons that agree, all, and of the first that does not its tape and its place.
 const NUMBERS: usize = 4;
 
-pub type Counts = [u64; 48];
+pub const ENTRIES: usize = NUMBERS * KINDS;
+
+pub type Counts = [u64; ENTRIES];
 
 // A comparison: where the first difference is.
 pub enum Compared {
     Same,
     Differs(usize),
+}
+
+// What is compared stands after so many words that agree.
+pub fn after(words: usize, c: Compared) -> Compared {
+    match c {
+        Compared::Same => Compared::Same,
+        Compared::Differs(place) => {
+            Compared::Differs(std::num::wrapping_add_usize(words, place))
+        }
+    }
 }
 
 pub fn same_or(same: bool, place: usize) -> Compared {

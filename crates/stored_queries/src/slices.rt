@@ -1,5 +1,6 @@
 // Slices beside the words of a record, and filled from them.
 use super::counts::Compared;
+use laws::MAX_QUBITS;
 
 // A place so many words on. A record that leads too far reads as zeros there.
 pub fn plus(i: usize, words: usize) -> usize {
@@ -62,9 +63,9 @@ fn entry(words: &[u64], first: usize, i: usize, n: usize) -> u64 {
     0
 }
 
-pub fn table(v: &[u16; 128], words: &[u64], first: usize, n: usize) -> Compared {
+pub fn table(v: &[u16; MAX_QUBITS], words: &[u64], first: usize, n: usize) -> Compared {
     let mut i = 0;
-    while i < 128 {
+    while i < MAX_QUBITS {
         if num::wide_word(v[i]) != entry(words, first, i, n) {
             return Compared::Differs(i);
         }

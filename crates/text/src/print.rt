@@ -15,9 +15,12 @@ use crate::lines::put_z_line;
 use detect::Answer;
 use detect::Report;
 use gaussian::run;
+use laws::OP_PLACES;
 use state::expectation_z;
 use tape::Checked;
 use tape::check_tape;
+use work::RECORD_FLOATS;
+use work::RECORD_MARKS;
 
 const MAX_TAPE: usize = 60000;
 
@@ -31,11 +34,11 @@ pub const MAX_TEXT: usize = 256;
 // What is lent to the run: places for that many gates and qubits, as the questions 9, 10 and 15 count them. An item becomes at most three operations.
 const RECORDS: usize = PRINTED_GATES + PRINTED_QUBITS;
 
-const FLOATS: usize = 64 * RECORDS;
+const FLOATS: usize = RECORD_FLOATS * RECORDS;
 
-const MARKS: usize = 32 * RECORDS;
+const MARKS: usize = RECORD_MARKS * RECORDS;
 
-const PLACES: usize = 18 * 3 * RECORDS;
+const PLACES: usize = OP_PLACES * 3 * RECORDS;
 
 const STATE: usize = 4 * PRINTED_QUBITS * PRINTED_QUBITS + 2 * PRINTED_QUBITS;
 

@@ -36,7 +36,7 @@ returns c =
     let x = w .before .before .before in
     let p = x .before in
     let e = p .before .before .before .before .before .before in
-    rw (c .number .ensures, t .put-tables .ensures, w .put-words .ensures, x .words .ensures, p .place-word .ensures)
+    rw (c .answer-number .ensures, t .put-tables .ensures, w .put-words .ensures, x .report-words .ensures, p .answer-place .ensures)
     (reports-all _ _ _ _ _ (e .pre))
 
 pub put-report-spec : {M : Type 1} → statement M

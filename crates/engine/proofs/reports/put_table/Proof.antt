@@ -3,16 +3,17 @@ use mathlib.Core.Path.{_≡_, refl}
 use Prim.Native.Nat.{_-_, _≤_}
 use native.Mathlib.Omega.{arith}
 use Rattle.laws.specs.Slices.{stores}
+use Rattle.laws.specs.Bounds.{maxQubits}
 use Rattle.engine.specs.Reports.{laid}
 use Rattle.engine.proofs.Laid.{laid-long, laid-more, laid-all}
 use Rattle.engine.proofs.reports.put_table.Statement.{statement}
 use Rattle.engine.proofs.reports.put_table.Tie as tie
 
 abbrev Inv-loop : tie.InvT-loop
-Inv-loop x out₀ a k₀ out k = (k ≤ 128) × (out ≡ laid k a x out₀)
+Inv-loop x out₀ a k₀ out k = (k ≤ maxQubits) × (out ≡ laid k a x out₀)
 
 abbrev μ-loop : tie.MeasureT-loop
-μ-loop x out₀ a k₀ out k = 128 - k
+μ-loop x out₀ a k₀ out k = maxQubits - k
 
 loop-holds : tie.Need-loop-holds Inv-loop μ-loop
 unfolding stores
@@ -40,7 +41,7 @@ returns : tie.Need-returns Inv-loop μ-loop
 returns c =
     let l = c .before .loop in
     let a = c .before .before .args in
-    laid-all (a .a) (a .x .now) (a .out .now) (l .out) (l .k) 128 (l .inv .0) (c .loop-test .left) (l .inv .1)
+    laid-all (a .a) (a .x .now) (a .out .now) (l .out) (l .k) maxQubits (l .inv .0) (c .loop-test .left) (l .inv .1)
 
 pub put-table-spec : {M : Type 1} → statement M
 put-table-spec =

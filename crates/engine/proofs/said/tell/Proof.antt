@@ -11,7 +11,7 @@ slice-write-answer : tie.Need-slice-write-answer
 slice-write-answer c = value-there _ _ (c .before .before .before .pre)
 
 returns : tie.Need-returns
-returns c = rw (c .say .ensures) (tells-all _ _ _ (c .before .before .before .pre))
+returns c = rw (c .told-answer .ensures) (tells-all _ _ _ (c .before .before .before .pre))
 
 pub tell-spec : {M : Type 1} → statement M
 tell-spec =

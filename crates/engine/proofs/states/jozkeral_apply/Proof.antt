@@ -6,7 +6,7 @@ use Rattle.engine.proofs.states.jozkeral_apply.Tie as tie
 returns : tie.Need-returns
 returns c =
     let q = c .before .before .before .apply .ensures in
-    (rw (c .say-applied .ensures, q .0), q .1)
+    (rw (c .told-applied .ensures, q .0), q .1)
 
 pub jozkeral-apply-spec : {M : Type 1} → statement M
 jozkeral-apply-spec =

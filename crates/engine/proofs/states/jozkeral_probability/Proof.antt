@@ -13,7 +13,7 @@ returns-2 : tie.Need-returns-2
 returns-2 c =
     let room = le-leb 1 _ (c .before .before .before .before .before .if1 .left) in
     let q = c .before .before .before .probability .ensures in
-    (rw (room, c .say .ensures, q .0), (rw (room, c .say .ensures, q .0), rw room (q .1)))
+    (rw (room, c .told-answer .ensures, q .0), (rw (room, c .told-answer .ensures, q .0), rw room (q .1)))
 
 pub jozkeral-probability-spec : {M : Type 1} → statement M
 jozkeral-probability-spec =

@@ -13,7 +13,7 @@ returns-2 : tie.Need-returns-2
 returns-2 c =
     let room = le-leb 1 _ (c .before .before .before .before .before .before .before .before .if1 .left) in
     let q = c .before .before .before .before .before .sample .ensures in
-    (rw (room, c .say-applied .ensures, q .0), (rw (room, c .say-applied .ensures, q .0), (rw room (q .1 .0), rw room (q .1 .1))))
+    (rw (room, c .told-applied .ensures, q .0), (rw (room, c .told-applied .ensures, q .0), (rw room (q .1 .0), rw room (q .1 .1))))
 
 pub jozkeral-sample-spec : {M : Type 1} → statement M
 jozkeral-sample-spec =
