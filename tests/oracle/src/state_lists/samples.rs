@@ -3,6 +3,7 @@
 use super::machine::Machine;
 use super::{any_modes, any_slice, float, op, Floats, FLOATS};
 use crate::families::pieces;
+use crate::layout::{query_places, INDEX_WORDS};
 use crate::rng::Rng;
 use original::access::detect::access as detect;
 
@@ -31,7 +32,7 @@ fn arbitrary(machine: &mut Machine, rng: &mut Rng, n: usize, kind: Floats) {
         false => rng.unit(),
     };
     let draws: Vec<f64> = (0..n * shots).map(|_| draw()).collect();
-    machine.sample(shots, &draws, 2 * shots + 1, 4 * n * n + 2);
+    machine.sample(shots, &draws, INDEX_WORDS * shots + 1, query_places(n) + 2);
     thresholds(machine, rng, n);
 }
 
@@ -56,7 +57,8 @@ fn thresholds(machine: &mut Machine, rng: &mut Rng, n: usize) {
             draws.extend(&shot);
         }
     }
-    machine.sample(2 * modes, &draws, 4 * modes, 4 * n * n);
+    let shots = 2 * modes;
+    machine.sample(shots, &draws, INDEX_WORDS * shots, query_places(n));
 }
 
 /// The least draw of mode k for which the shot is another than for 0.0; the largest draw if there is none.
