@@ -274,6 +274,7 @@ fn compiled(written: &c::Report, ops: &[f64]) -> Compiled {
 fn report(written: &c::Report) -> Report {
     let w = &written.words;
     let n = w[word::N] as usize;
+    let says = |word: usize| w[word] != 0;
     let table = |which: usize| written.table(which)[..n].iter().map(|x| usize::from(*x));
     Report {
         n,
@@ -284,10 +285,10 @@ fn report(written: &c::Report) -> Report {
         nonadjacent: w[word::NONADJACENT],
         interactions: w[word::INTERACTIONS],
         swaps: w[word::SWAPS],
-        number_conserving: written.says(word::CONSERVING),
-        exact: written.says(word::EXACT),
-        free: written.says(word::FREE),
-        angled: written.says(word::ANGLED),
+        number_conserving: says(word::CONSERVING),
+        exact: says(word::EXACT),
+        free: says(word::FREE),
+        angled: says(word::ANGLED),
         ordering: match w[word::ORDERING] {
             ordering::IDENTITY => Ordering::Identity,
             ordering::PATHS => Ordering::Paths,

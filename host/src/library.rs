@@ -46,11 +46,6 @@ impl Report {
         self.words[word::OPERATIONS] as usize
     }
 
-    /// A word that is 0 or 1.
-    pub fn says(&self, word: usize) -> bool {
-        self.words[word] != 0
-    }
-
     /// One of the tables, with its unused places.
     pub fn table(&self, which: usize) -> &[u16] {
         &self.tables[which * MAX_QUBITS..][..MAX_QUBITS]
