@@ -98,6 +98,11 @@ extern "C" {
 #define JOZKERAL_MODES_AT (2 * JOZKERAL_MAX_QUBITS)                      /* where the third of them starts, the modes */
 #define JOZKERAL_INDEX_WORDS 2                                           /* words of a basis index, and of out for each shot */
 
+/* ---- the kinds of operations ---------------------------------------------------------------------------------------- */
+#define JOZKERAL_KIND_ONE 1
+#define JOZKERAL_KIND_TWO 2
+#define JOZKERAL_KIND_INTERACTION 3
+
 /* ---- the words of a report ------------------------------------------------------------------------------------------ */
 #define JOZKERAL_WORD_N 0
 #define JOZKERAL_WORD_BLOCKS 1
@@ -143,8 +148,9 @@ uint64_t jozkeral_label(const uint8_t *tape, size_t tape_len, size_t which, uint
  *     passed, untouched before.
  * ops: written if the answer is 0, one operation after the other, JOZKERAL_OP_PLACES each; later places keep their values. An
  *     operation is kind, mode and 16 numbers, with 0.0 in the places that are not used:
- *       1  a map of one mode, 2 by 2 by rows;   2  a map of a mode and the next one, 4 by 4 by rows;
- *       3  an interaction: the index of its block, its second mode, the real and the imaginary part of its phase.
+ *       JOZKERAL_KIND_ONE          a map of one mode, 2 by 2 by rows
+ *       JOZKERAL_KIND_TWO          a map of a mode and the next one, 4 by 4 by rows
+ *       JOZKERAL_KIND_INTERACTION  the index of its block, its second mode, the real and the imaginary part of its phase
  *     There are none if a block is bad.
  * place (1): the place of the refusal, or 0.
  * report (JOZKERAL_REPORT_WORDS): the words JOZKERAL_WORD_N to JOZKERAL_WORD_ORDERING.

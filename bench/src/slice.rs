@@ -1,7 +1,7 @@
 //! A state in the port's form: its slice and mode table. Calls on it get exactly the work that question 20 asks for.
 
 use crate::jozkeral::{self, Refusal, State};
-use crate::layout::{index_of, index_words, query_places, INDEX_WORDS};
+use crate::layout::{index_of, index_words, kind, query_places, INDEX_WORDS};
 use crate::lent::OLD;
 use oracle::answer::Answer;
 use oracle::compiled::answer::{filled, Places};
@@ -82,9 +82,9 @@ impl Slice {
 /// The places of an operation.
 pub fn places(op: &GaussOp) -> Places {
     match op {
-        GaussOp::One { mode, q } => filled(1.0, *mode, q.as_flattened()),
-        GaussOp::Two { mode, q } => filled(2.0, *mode, q.as_flattened()),
-        GaussOp::Interaction(_) => filled(3.0, 0, &[]),
+        GaussOp::One { mode, q } => filled(kind::ONE, *mode, q.as_flattened()),
+        GaussOp::Two { mode, q } => filled(kind::TWO, *mode, q.as_flattened()),
+        GaussOp::Interaction(_) => filled(kind::INTERACTION, 0, &[]),
     }
 }
 

@@ -3,8 +3,8 @@
 //! for every tape that it takes.
 
 use crate::layout::{
-    index_of, index_words, measure, ops_places, ordering, query_places, state_places, table, word,
-    INDEX_WORDS, MAX_GATES, MAX_QUBITS, MAX_SHOTS, OP_PLACES,
+    index_of, index_words, kind, measure, ops_places, ordering, query_places, state_places, table,
+    word, INDEX_WORDS, MAX_GATES, MAX_QUBITS, MAX_SHOTS, OP_PLACES,
 };
 use crate::library as c;
 pub use crate::library::Refusal;
@@ -67,16 +67,17 @@ impl Operation {
         let mut places = [0.0; OP_PLACES];
         match self {
             Operation::One { mode, map } => {
-                (places[0], places[1]) = (1.0, *mode as f64);
+                (places[0], places[1]) = (kind::ONE, *mode as f64);
                 places[2..6].copy_from_slice(map);
             }
             Operation::Two { mode, map } => {
-                (places[0], places[1]) = (2.0, *mode as f64);
+                (places[0], places[1]) = (kind::TWO, *mode as f64);
                 places[2..].copy_from_slice(map);
             }
             Operation::Interaction { modes, block, unit } => {
-                let numbers = [3.0, modes.0 as f64, *block as f64, modes.1 as f64, unit.0, unit.1];
-                places[..6].copy_from_slice(&numbers);
+                (places[0], places[1]) = (kind::INTERACTION, modes.0 as f64);
+                let numbers = [*block as f64, modes.1 as f64, unit.0, unit.1];
+                places[2..6].copy_from_slice(&numbers);
             }
         }
         places
@@ -85,9 +86,9 @@ impl Operation {
     /// The operation of its places.
     fn of(places: &[f64]) -> Operation {
         let mode = places[1] as usize;
-        match places[0] as u8 {
-            1 => Operation::One { mode, map: std::array::from_fn(|i| places[2 + i]) },
-            2 => Operation::Two { mode, map: std::array::from_fn(|i| places[2 + i]) },
+        match places[0] {
+            kind::ONE => Operation::One { mode, map: std::array::from_fn(|i| places[2 + i]) },
+            kind::TWO => Operation::Two { mode, map: std::array::from_fn(|i| places[2 + i]) },
             _ => Operation::Interaction {
                 modes: (mode, places[3] as usize),
                 block: places[2] as usize,

@@ -21,6 +21,15 @@ pub const fn given_floats(qubits: usize) -> usize {
 /// Places of one operation: kind, mode, 16 numbers.
 pub const OP_PLACES: usize = 18;
 
+/// The kinds of operations.
+pub mod kind {
+    /// A map of one mode.
+    pub const ONE: f64 = 1.0;
+    /// A map of a mode and the next one.
+    pub const TWO: f64 = 2.0;
+    pub const INTERACTION: f64 = 3.0;
+}
+
 /// Places of work for each gate and each qubit, floats and marks; and operations of these at most:
 /// a block may become two rotations and an interaction.
 pub const RECORD_FLOATS: usize = 64;

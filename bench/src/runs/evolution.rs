@@ -1,6 +1,6 @@
 //! The original's `apply` on operations in the port's form.
 
-use crate::layout::OP_PLACES;
+use crate::layout::{kind, OP_PLACES};
 use original::access::detect::GaussOp;
 use original::access::state::{access, GaussianState};
 
@@ -15,8 +15,8 @@ pub fn evolved(n: usize, ops: &[f64], modes: Vec<usize>) -> GaussianState {
 fn operation(places: &[f64]) -> Option<GaussOp> {
     let (mode, q) = (places[1] as usize, &places[2..]);
     match places[0] {
-        1.0 => Some(GaussOp::One { mode, q: [[q[0], q[1]], [q[2], q[3]]] }),
-        2.0 => {
+        kind::ONE => Some(GaussOp::One { mode, q: [[q[0], q[1]], [q[2], q[3]]] }),
+        kind::TWO => {
             let q = std::array::from_fn(|i| std::array::from_fn(|j| q[4 * i + j]));
             Some(GaussOp::Two { mode, q })
         }

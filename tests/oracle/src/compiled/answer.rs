@@ -4,7 +4,7 @@
 
 use crate::bits::word;
 use crate::classify::rule;
-use crate::layout::{ordering, word as at, MEASURES, OP_PLACES, REPORT_WORDS, TABLES};
+use crate::layout::{kind, ordering, word as at, MEASURES, OP_PLACES, REPORT_WORDS, TABLES};
 use crate::list::List;
 use crate::run::path_starts;
 use crate::traced::{traced, Traced};
@@ -109,8 +109,8 @@ pub fn filled(kind: f64, mode: usize, numbers: &[f64]) -> Places {
 /// The places of an operation of an unangled list, which has no interaction.
 fn places(op: &GaussOp) -> Places {
     match op {
-        GaussOp::One { mode, q } => filled(1.0, *mode, q.as_flattened()),
-        GaussOp::Two { mode, q } => filled(2.0, *mode, q.as_flattened()),
+        GaussOp::One { mode, q } => filled(kind::ONE, *mode, q.as_flattened()),
+        GaussOp::Two { mode, q } => filled(kind::TWO, *mode, q.as_flattened()),
         GaussOp::Interaction(_) => unreachable!("a diagonal block in a list that is not angled"),
     }
 }
@@ -160,7 +160,7 @@ fn diagonal<'a>(
             None => close(&[1.0, 0.0, 0.0, 1.0], &q_or_none),
         };
         assert!(near, "the rotation of {p}, {angle}");
-        out.extend(q.map(|q| filled(1.0, mode, &q)));
+        out.extend(q.map(|q| filled(kind::ONE, mode, &q)));
     }
     if let Some(block) = interacts {
         let unit = rule::unit(w);
@@ -172,7 +172,11 @@ fn diagonal<'a>(
             }
             other => panic!("{other:?} in the place of an interaction"),
         }
-        out.push(filled(3.0, modes[0], &[block as f64, modes[1] as f64, unit.re, unit.im]));
+        out.push(filled(
+            kind::INTERACTION,
+            modes[0],
+            &[block as f64, modes[1] as f64, unit.re, unit.im],
+        ));
     }
     out
 }

@@ -1,7 +1,7 @@
 //! The engine's `apply` written again, with a fault of the signs if one is
 //! asked for: what a stored tape must show.
 
-use crate::layout::OP_PLACES;
+use crate::layout::{kind, OP_PLACES};
 use original::access::state::access::det;
 
 #[derive(Clone, Copy, Debug, PartialEq)]
@@ -37,9 +37,13 @@ pub fn turns(n: usize, ops: &[f64]) -> Vec<usize> {
     ops.chunks(OP_PLACES).enumerate().filter(|(_, op)| turns(op)).map(|(k, _)| k).collect()
 }
 
-/// Operators that a map is on; kinds are 1 and 2 here.
+/// Operators that a map is on; here is no interaction.
 fn width(op: &[f64]) -> usize {
-    2 * op[0] as usize
+    if op[0] == kind::ONE {
+        2
+    } else {
+        4
+    }
 }
 
 fn is_odd(op: &[f64]) -> bool {

@@ -5,7 +5,7 @@
 use super::tag;
 use crate::bits::word;
 use crate::layout::{
-    index_of, index_words, query_places, state_places, INDEX_WORDS, MAX_QUBITS, MAX_SHOTS,
+    index_of, index_words, kind, query_places, state_places, INDEX_WORDS, MAX_QUBITS, MAX_SHOTS,
     OP_PLACES,
 };
 use crate::records::Records;
@@ -105,13 +105,15 @@ impl Machine {
         let q = |i: usize| op[2 + i];
         match op {
             _ if op.len() < OP_PLACES => None,
-            [1.0, mode, ..] => modes(*mode, self.n)
+            [kind::ONE, mode, ..] => modes(*mode, self.n)
                 .map(|mode| GaussOp::One { mode, q: [[q(0), q(1)], [q(2), q(3)]] }),
-            [2.0, mode, ..] => modes(*mode, self.n.saturating_sub(1)).map(|mode| GaussOp::Two {
-                mode,
-                q: std::array::from_fn(|i| std::array::from_fn(|j| q(4 * i + j))),
-            }),
-            [3.0, ..] => Some(GaussOp::Interaction(InteractionPhase {
+            [kind::TWO, mode, ..] => {
+                modes(*mode, self.n.saturating_sub(1)).map(|mode| GaussOp::Two {
+                    mode,
+                    q: std::array::from_fn(|i| std::array::from_fn(|j| q(4 * i + j))),
+                })
+            }
+            [kind::INTERACTION, ..] => Some(GaussOp::Interaction(InteractionPhase {
                 block: 0,
                 wires: (0, 1),
                 modes: (0, 1),

@@ -3,7 +3,7 @@
 use super::machine::Machine;
 use super::{any_modes, any_slice, float, op, Floats, FLOATS};
 use crate::families::pieces;
-use crate::layout::{query_places, INDEX_WORDS};
+use crate::layout::{kind, query_places, INDEX_WORDS};
 use crate::rng::Rng;
 use original::access::detect::access as detect;
 
@@ -41,7 +41,7 @@ fn turned_vacuum(machine: &mut Machine, rng: &mut Rng) {
     machine.vacuum(3);
     for mode in [0.0, 1.0, 0.0] {
         let u = pieces::matrix(&pieces::xx(0, 1, rng.angle()));
-        machine.apply(&op(2.0, mode, detect::majorana_map2(&u).0.as_flattened()));
+        machine.apply(&op(kind::TWO, mode, detect::majorana_map2(&u).0.as_flattened()));
     }
 }
 
