@@ -61,8 +61,8 @@ extern "C" {
 #define JOZKERAL_APART 11        /* Is it untrue that there are bad blocks, all of them matchgates on modes that are not neighbours? */
 #define JOZKERAL_BAD 12          /* Is no block bad (neither Gaussian nor an interaction)? */
 #define JOZKERAL_INTERACTION 13  /* Is there no interaction, or does flag 4 drop them? */
-#define JOZKERAL_LIMIT 14        /* Are the 8 (2n)^2 bytes of the covariance matrix at most the tape's limit? */
-#define JOZKERAL_STATE 15        /* Has state JOZKERAL_STATE_PLACES(n), which are 4 n^2 + 2 n? */
+#define JOZKERAL_LIMIT 14        /* Are the bytes of the covariance matrix, 8 for each of its places, at most the tape's limit? */
+#define JOZKERAL_STATE 15        /* Has state JOZKERAL_STATE_PLACES(n)? */
 /* The calls on a state: */
 #define JOZKERAL_BAD_STATE 16    /* Is n at most JOZKERAL_MAX_QUBITS, has state its places, and are the first n modes 0 to n - 1, each once? */
 #define JOZKERAL_OPERATION 17    /* Has op JOZKERAL_OP_PLACES, a kind 1, 2 or 3, and for 1 and 2 a whole mode below n, for 2 the next one too? */
@@ -89,8 +89,9 @@ extern "C" {
 #define JOZKERAL_MARK_PLACES(g, n) (JOZKERAL_RECORD_MARKS * ((size_t)(g) + (size_t)(n)))  /* marks: question 9 */
 #define JOZKERAL_OP_PLACES 18                                            /* places of one operation */
 #define JOZKERAL_OPS_PLACES(g, n) (JOZKERAL_RECORD_OPS * JOZKERAL_OP_PLACES * ((size_t)(g) + (size_t)(n))) /* ops: enough for any tape */
-#define JOZKERAL_QUERY_PLACES(n) (4 * (size_t)(n) * (size_t)(n))         /* work of a query: enough for each; a sample needs them all */
-#define JOZKERAL_STATE_PLACES(n) (JOZKERAL_QUERY_PLACES(n) + 2 * (size_t)(n)) /* state: questions 15 and 16 */
+#define JOZKERAL_COVARIANCE_PLACES(n) (4 * (size_t)(n) * (size_t)(n))    /* the covariance matrix of the 2n Majorana operators */
+#define JOZKERAL_STATE_PLACES(n) (JOZKERAL_COVARIANCE_PLACES(n) + 2 * (size_t)(n)) /* state: questions 15 and 16 */
+#define JOZKERAL_QUERY_PLACES(n) JOZKERAL_COVARIANCE_PLACES(n)           /* work of a query: enough for each; a sample needs them all */
 #define JOZKERAL_REPORT_WORDS 14
 #define JOZKERAL_MEASURES 2
 #define JOZKERAL_TABLES 3

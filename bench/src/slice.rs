@@ -1,7 +1,7 @@
 //! A state in the port's form: its slice and mode table. Calls on it get exactly the work that question 20 asks for.
 
 use crate::jozkeral::{self, Refusal, State};
-use crate::layout::{index_of, index_words, kind, query_places, INDEX_WORDS};
+use crate::layout::{covariance_places, index_of, index_words, kind, query_places, INDEX_WORDS};
 use crate::lent::OLD;
 use oracle::answer::Answer;
 use oracle::compiled::answer::{filled, Places};
@@ -28,7 +28,7 @@ impl Slice {
 
     /// The original's state of the same numbers.
     pub fn original(&self) -> GaussianState {
-        let (m, d) = self.places.split_at(query_places(self.n));
+        let (m, d) = self.places.split_at(covariance_places(self.n));
         access::state(self.n, m.to_vec(), d.to_vec(), self.mode_of_qubit())
     }
 
@@ -39,9 +39,8 @@ impl Slice {
 
     /// Applies an operation; the number of a refusal, or 0.
     pub fn apply(&mut self, op: &[f64]) -> u64 {
-        let [number, _] =
-            Refusal::told(&jozkeral::apply(self.n, &mut self.places, &self.modes, op));
-        number
+        let answer = jozkeral::apply(self.n, &mut self.places, &self.modes, op);
+        Refusal::told(&answer)[0]
     }
 
     /// The answer to a query, and whether work and output are afterwards as they must be.

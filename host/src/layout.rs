@@ -51,19 +51,24 @@ pub const fn ops_places(g: usize, n: usize) -> usize {
     RECORD_OPS * OP_PLACES * (g + n)
 }
 
-/// Places of a state, the covariance matrix and the signs: questions 15 and 16.
-pub const fn state_places(n: usize) -> usize {
-    query_places(n) + 2 * n
-}
-
-/// Places of work for any query, which are those of the covariance matrix: question 20.
-pub const fn query_places(n: usize) -> usize {
+/// Places of the covariance matrix, a row and a column for each of the 2n Majorana operators.
+pub const fn covariance_places(n: usize) -> usize {
     4 * n * n
 }
 
-/// Bytes of the covariance matrix: question 14.
+/// Its bytes: question 14.
 pub const fn covariance_bytes(n: usize) -> u64 {
-    (size_of::<f64>() * query_places(n)) as u64
+    (size_of::<f64>() * covariance_places(n)) as u64
+}
+
+/// Places of a state, the covariance matrix and a sign for each operator: questions 15 and 16.
+pub const fn state_places(n: usize) -> usize {
+    covariance_places(n) + 2 * n
+}
+
+/// Places of work that suffice for a query of n qubits: question 20.
+pub const fn query_places(n: usize) -> usize {
+    covariance_places(n)
 }
 
 /// Words and measures of a report.

@@ -1,8 +1,8 @@
 //! The C symbols of libengine.a (include/jozkeral.h), each on slices in place of pointers and
-//! lengths. This crate's only module with unsafe code; it needs none but `layout`, so that tests/abi and
-//! bench take the two files as they are. Every call here is sound for the same reason: a pointer passes with the
-//! length of its slice, the slices of one call do not overlap (Rust lends them apart), and the library
-//! keeps none of them.
+//! lengths. This crate's only module with unsafe code; it needs no other but `layout`, so that
+//! tests/abi and bench take the two files as they are. Every call here is sound for the same reason: a
+//! pointer passes with the length of its slice, the slices of one call do not overlap (Rust lends them
+//! apart), and the library keeps none of them.
 
 use crate::layout::{
     table, word, work_floats, work_marks, MAX_QUBITS, MEASURES, REPORT_WORDS, TABLE_PLACES,
@@ -28,6 +28,7 @@ impl Refusal {
 pub struct Report {
     pub words: [u64; REPORT_WORDS],
     pub measures: [f64; MEASURES],
+    /// One after the other.
     pub tables: [u16; TABLE_PLACES],
 }
 

@@ -88,6 +88,7 @@ fn ours(g: usize, n: usize) -> BTreeMap<&'static str, usize> {
         ("MARK_PLACES", work_marks(g, n)),
         ("OP_PLACES", OP_PLACES),
         ("OPS_PLACES", ops_places(g, n)),
+        ("COVARIANCE_PLACES", covariance_places(n)),
         ("QUERY_PLACES", query_places(n)),
         ("STATE_PLACES", state_places(n)),
         ("REPORT_WORDS", REPORT_WORDS),

@@ -172,11 +172,8 @@ fn diagonal<'a>(
             }
             other => panic!("{other:?} in the place of an interaction"),
         }
-        out.push(filled(
-            kind::INTERACTION,
-            modes[0],
-            &[block as f64, modes[1] as f64, unit.re, unit.im],
-        ));
+        let numbers = [block as f64, modes[1] as f64, unit.re, unit.im];
+        out.push(filled(kind::INTERACTION, modes[0], &numbers));
     }
     out
 }

@@ -45,8 +45,8 @@ pub fn add(out: &mut Records) {
         met.count(&graph);
     }
     let wide = wide(rng);
-    let plainly = plain(out, &list(rng, &wide, REORDER), |c| c.report[word::ANGLED] == 0);
-    assert!(plainly, "{MAX_GATES} matchgates");
+    let added = plain(out, &list(rng, &wide, REORDER), |c| c.report[word::ANGLED] == 0);
+    assert!(added, "{MAX_GATES} matchgates");
     for _ in 0..400 {
         let graph = random(rng);
         let flags = rng.pick(&FLAGS);

@@ -334,9 +334,9 @@ fn short_slices() -> Vec<Refusal> {
         short[k + 1..].fill(0);
         out.push(refusal(&list, short, number));
     }
-    for (list, number) in
-        [(of(3, RELABEL, &[X(1), ISwap(0, 2)]), 11), (List { limit: 127, ..of(2, 0, &[]) }, 14)]
-    {
+    let apart = of(3, RELABEL, &[X(1), ISwap(0, 2)]);
+    let limited = List { limit: 127, ..of(2, 0, &[]) };
+    for (list, number) in [(apart, 11), (limited, 14)] {
         let [floats, marks] = work(&list);
         out.push(refusal(&list, [floats, marks, 0, 0], number));
     }

@@ -5,8 +5,8 @@
 use super::tag;
 use crate::bits::word;
 use crate::layout::{
-    index_of, index_words, kind, query_places, state_places, INDEX_WORDS, MAX_QUBITS, MAX_SHOTS,
-    OP_PLACES,
+    covariance_places, index_of, index_words, kind, query_places, state_places, INDEX_WORDS,
+    MAX_QUBITS, MAX_SHOTS, OP_PLACES,
 };
 use crate::records::Records;
 use original::access::detect::{GaussOp, InteractionPhase};
@@ -92,7 +92,7 @@ impl Machine {
     /// The original's state.
     fn original(&self) -> GaussianState {
         let n = self.n;
-        let (m, d) = self.slice[..state_places(n)].split_at(query_places(n));
+        let (m, d) = self.slice[..state_places(n)].split_at(covariance_places(n));
         let modes = self.modes[..n].iter().map(|&k| usize::from(k)).collect();
         access::state(n, m.to_vec(), d.to_vec(), modes)
     }

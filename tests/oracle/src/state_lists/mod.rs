@@ -7,7 +7,7 @@ mod queries;
 mod samples;
 mod signs;
 
-use crate::layout::{query_places, OP_PLACES};
+use crate::layout::{covariance_places, OP_PLACES};
 use crate::rng::Rng;
 use machine::Machine;
 
@@ -79,7 +79,7 @@ fn float(rng: &mut Rng, kind: Floats) -> f64 {
 
 /// A matrix and signs, not antisymmetric; the signs are 1 and -1, or of any kind.
 fn any_slice(rng: &mut Rng, n: usize, kind: Floats, signs: bool) -> Vec<f64> {
-    let mut out: Vec<f64> = (0..query_places(n)).map(|_| float(rng, kind)).collect();
+    let mut out: Vec<f64> = (0..covariance_places(n)).map(|_| float(rng, kind)).collect();
     out.extend((0..2 * n).map(|_| if signs { rng.pick(&[1.0, -1.0]) } else { float(rng, kind) }));
     out
 }
