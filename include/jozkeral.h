@@ -48,42 +48,80 @@ extern "C" {
  */
 #define JOZKERAL_OK 0
 #define JOZKERAL_HEADER 1        /* Does the tape begin with a whole header: 20 bytes, marked 51 48? */
-#define JOZKERAL_SIZE 2          /* Are there at most 128 qubits, and are the flags at most 7? */
+#define JOZKERAL_SIZE 2          /* Are there at most JOZKERAL_MAX_QUBITS qubits, and are the flags at most 7? */
 #define JOZKERAL_TOLERANCE 3     /* Is the tolerance a number from 0 to 0.001? (-0.0 is 0, a NaN is none.) */
-#define JOZKERAL_GATES 4         /* Is this gate among the first 1024? */
+#define JOZKERAL_GATES 4         /* Is this gate among the first JOZKERAL_MAX_GATES? */
 #define JOZKERAL_RECORD 5        /* Is this record whole, and of a known kind: its mark, its code, a label's length and bytes? */
 #define JOZKERAL_QUBIT 6         /* Is every qubit of this gate below n? */
 #define JOZKERAL_REPEATED 7      /* Are the qubits of this gate different? */
 #define JOZKERAL_ENTRY 8         /* Is every number of this given matrix finite and of absolute value at most 2? */
-#define JOZKERAL_WORK 9          /* For G gates, has work 64 (G + n) and marks 32 (G + n) places? */
-#define JOZKERAL_OPERATIONS 10   /* Has ops 18 places for each operation? */
+#define JOZKERAL_WORK 9          /* For g gates, has work JOZKERAL_WORK_PLACES(g, n) and marks JOZKERAL_MARK_PLACES(g, n) places? */
+#define JOZKERAL_OPERATIONS 10   /* Has ops JOZKERAL_OP_PLACES for each operation? */
 /* Only jozkeral_run: */
 #define JOZKERAL_APART 11        /* Is it untrue that there are bad blocks, all of them matchgates on modes that are not neighbours? */
 #define JOZKERAL_BAD 12          /* Is no block bad (neither Gaussian nor an interaction)? */
 #define JOZKERAL_INTERACTION 13  /* Is there no interaction, or does flag 4 drop them? */
-#define JOZKERAL_LIMIT 14        /* Are the 8 (2n)^2 bytes of the covariance matrix at most the tape's limit? */
-#define JOZKERAL_STATE 15        /* Has state 4 n^2 + 2 n places? */
+#define JOZKERAL_LIMIT 14        /* Are the bytes of the covariance matrix, 8 for each of its places, at most the tape's limit? */
+#define JOZKERAL_STATE 15        /* Has state JOZKERAL_STATE_PLACES(n)? */
 /* The calls on a state: */
-#define JOZKERAL_BAD_STATE 16    /* Is n at most 128, has state its places, and are the first n modes the numbers 0 to n - 1, each once? */
-#define JOZKERAL_OPERATION 17    /* Has op 18 places, a kind 1, 2 or 3, and for 1 and 2 a whole mode below n, for 2 the next one too? */
+#define JOZKERAL_BAD_STATE 16    /* Is n at most JOZKERAL_MAX_QUBITS, has state its places, and are the first n modes 0 to n - 1, each once? */
+#define JOZKERAL_OPERATION 17    /* Has op JOZKERAL_OP_PLACES, a kind 1, 2 or 3, and for 1 and 2 a whole mode below n, for 2 the next one too? */
 #define JOZKERAL_BITS 18         /* Are there as many bits as qubits, each 0 or 1? */
 #define JOZKERAL_LISTED 19       /* Is this listed qubit below n? */
 #define JOZKERAL_QUERY_WORK 20   /* Has work its places: the square of twice the number of modes that are left, for a sample (2n)^2? */
-#define JOZKERAL_SHOTS 21        /* Are there at most 65536 shots, n draws for each, and 2 words of out for each? */
+#define JOZKERAL_SHOTS 21        /* Are there at most JOZKERAL_MAX_SHOTS, n draws for each, and JOZKERAL_INDEX_WORDS of out for each? */
 #define JOZKERAL_DRAW 22         /* Is this draw, which is to be used, at least 0 and below 1? */
 /* Any call with a slice for its answer: */
 #define JOZKERAL_NO_ROOM 99      /* Are the slices for the answer long enough? */
 
+/* ---- limits --------------------------------------------------------------------------------------------------------- */
+#define JOZKERAL_MAX_QUBITS 128  /* of a tape: question 2; of a state: question 16 */
+#define JOZKERAL_MAX_GATES 1024  /* of a tape: question 4 */
+#define JOZKERAL_MAX_LABEL 40    /* bytes of a label: question 5 */
+#define JOZKERAL_MAX_SHOTS 65536 /* of one call: question 21 */
+
 /* ---- sizes, in elements: n qubits, g gate records on the tape ------------------------------------------------------- */
-#define JOZKERAL_WORK_PLACES(g, n) (64 * ((size_t)(g) + (size_t)(n)))    /* work of compile and run: question 9 */
-#define JOZKERAL_MARK_PLACES(g, n) (32 * ((size_t)(g) + (size_t)(n)))    /* marks: question 9 */
+#define JOZKERAL_HEADER_BYTES 20                                         /* the tape's header */
+#define JOZKERAL_RECORD_FLOATS 64                                        /* places of work for each gate and each qubit */
+#define JOZKERAL_RECORD_MARKS 32                                         /* places of marks for each of them */
+#define JOZKERAL_RECORD_OPS 3                                            /* operations for each of them at most */
+#define JOZKERAL_WORK_PLACES(g, n) (JOZKERAL_RECORD_FLOATS * ((size_t)(g) + (size_t)(n))) /* work of compile and run: question 9 */
+#define JOZKERAL_MARK_PLACES(g, n) (JOZKERAL_RECORD_MARKS * ((size_t)(g) + (size_t)(n)))  /* marks: question 9 */
 #define JOZKERAL_OP_PLACES 18                                            /* places of one operation */
-#define JOZKERAL_OPS_PLACES(g, n) (54 * ((size_t)(g) + (size_t)(n)))     /* ops: enough for any tape; 18 for each operation is needed */
-#define JOZKERAL_STATE_PLACES(n) (4 * (size_t)(n) * (n) + 2 * (size_t)(n)) /* state: questions 15 and 16 */
-#define JOZKERAL_QUERY_PLACES(n) (4 * (size_t)(n) * (n))                 /* work of a query: enough for each; a sample needs them all */
+#define JOZKERAL_OPS_PLACES(g, n) (JOZKERAL_RECORD_OPS * JOZKERAL_OP_PLACES * ((size_t)(g) + (size_t)(n))) /* ops: enough for any tape */
+#define JOZKERAL_COVARIANCE_PLACES(n) (4 * (size_t)(n) * (size_t)(n))    /* the covariance matrix of the 2n Majorana operators */
+#define JOZKERAL_STATE_PLACES(n) (JOZKERAL_COVARIANCE_PLACES(n) + 2 * (size_t)(n)) /* state: questions 15 and 16 */
+#define JOZKERAL_QUERY_PLACES(n) JOZKERAL_COVARIANCE_PLACES(n)           /* work of a query: enough for each; a sample needs them all */
 #define JOZKERAL_REPORT_WORDS 14
 #define JOZKERAL_MEASURES 2
-#define JOZKERAL_TABLE_PLACES 384
+#define JOZKERAL_TABLES 3
+#define JOZKERAL_TABLE_PLACES (JOZKERAL_TABLES * JOZKERAL_MAX_QUBITS)    /* tables: all three */
+#define JOZKERAL_MODES_AT (2 * JOZKERAL_MAX_QUBITS)                      /* where the third of them starts, the modes */
+#define JOZKERAL_INDEX_WORDS 2                                           /* words of a basis index, and of out for each shot */
+
+/* ---- the kinds of operations ---------------------------------------------------------------------------------------- */
+#define JOZKERAL_KIND_ONE 1
+#define JOZKERAL_KIND_TWO 2
+#define JOZKERAL_KIND_INTERACTION 3
+
+/* ---- the words of a report ------------------------------------------------------------------------------------------ */
+#define JOZKERAL_WORD_N 0
+#define JOZKERAL_WORD_BLOCKS 1
+#define JOZKERAL_WORD_TWO 2          /* blocks of two qubits */
+#define JOZKERAL_WORD_GAUSSIAN 3     /* Gaussian blocks */
+#define JOZKERAL_WORD_BAD 4          /* bad blocks */
+#define JOZKERAL_WORD_NONADJACENT 5  /* of the bad ones the matchgates on modes that are not neighbours */
+#define JOZKERAL_WORD_INTERACTIONS 6
+#define JOZKERAL_WORD_SWAPS 7        /* swaps relabelled */
+#define JOZKERAL_WORD_OPERATIONS 8
+#define JOZKERAL_WORD_CONSERVING 9   /* from here on 0 or 1: number conserving */
+#define JOZKERAL_WORD_EXACT 10       /* no bad block and no interaction */
+#define JOZKERAL_WORD_FREE 11        /* no bad block */
+#define JOZKERAL_WORD_ANGLED 12
+#define JOZKERAL_WORD_ORDERING 13    /* one of these three: */
+#define JOZKERAL_ORDERING_IDENTITY 0
+#define JOZKERAL_ORDERING_PATHS 1
+#define JOZKERAL_ORDERING_GREEDY 2
 
 /* ---- the tape -------------------------------------------------------------------------------------------------------
  *
@@ -94,7 +132,7 @@ extern "C" {
  *           The first qubit is the high bit of a row or column index.
  *           1 qubit: 00 I, 01 H, 02 X, 03 Y, 04 Z, 05 S, 06 S adjoint, 07 root of X, 08 its adjoint, 0f given (8 floats);
  *           2 qubits: 10 CNOT, 11 CZ, 12 SWAP, 13 ISWAP, 14 its adjoint, 1f given (32 floats); 3 qubits: 20 CCX.
- *   label   51 4c, length 0 to 40 (1), as many bytes from 20 to 7e; anywhere after the header.
+ *   label   51 4c, length 0 to JOZKERAL_MAX_LABEL (1), as many bytes from 20 to 7e; anywhere after the header.
  */
 
 /*
@@ -109,18 +147,18 @@ uint64_t jozkeral_label(const uint8_t *tape, size_t tape_len, size_t which, uint
  *
  * work, marks (JOZKERAL_WORK_PLACES, JOZKERAL_MARK_PLACES): what was there does not matter; zeros in these places once 9 has
  *     passed, untouched before.
- * ops: written if the answer is 0, one operation after the other, 18 places each; later places keep their values. An operation is
- *     kind, mode and 16 numbers, with 0.0 in the places that are not used:
- *       1  a map of one mode, 2 by 2 by rows;   2  a map of a mode and the next one, 4 by 4 by rows;
- *       3  an interaction: the index of its block, its second mode, the real and the imaginary part of its phase.
+ * ops: written if the answer is 0, one operation after the other, JOZKERAL_OP_PLACES each; later places keep their values. An
+ *     operation is kind, mode and 16 numbers, with 0.0 in the places that are not used:
+ *       JOZKERAL_KIND_ONE          a map of one mode, 2 by 2 by rows
+ *       JOZKERAL_KIND_TWO          a map of a mode and the next one, 4 by 4 by rows
+ *       JOZKERAL_KIND_INTERACTION  the index of its block, its second mode, the real and the imaginary part of its phase
  *     There are none if a block is bad.
  * place (1): the place of the refusal, or 0.
- * report (14): 0 n, 1 blocks, 2 those of two qubits, 3 Gaussian ones, 4 bad ones, 5 of these the matchgates on modes that are not
- *     neighbours, 6 interactions, 7 swaps relabelled, 8 operations, then 0 or 1 for: 9 number conserving, 10 exact (no bad block
- *     and no interaction), 11 free (no bad block), 12 angled; 13 ordering: 0 identity, 1 paths, 2 greedy.
- * measures (2): Gaussian blocks in proportion to all (1.0 if there is none), the largest residual.
- * tables (384): three tables of 128, of which the first n entries count and the others are 0: the wire on each mode, whether a
- *     path starts there (0 or 1), the mode of each qubit. `tables + 256` with length 128 is `modes` for the calls on a state.
+ * report (JOZKERAL_REPORT_WORDS): the words JOZKERAL_WORD_N to JOZKERAL_WORD_ORDERING.
+ * measures (JOZKERAL_MEASURES): Gaussian blocks in proportion to all (1.0 if there is none), the largest residual.
+ * tables (JOZKERAL_TABLE_PLACES): three tables of JOZKERAL_MAX_QUBITS, of which the first n entries count and the others are 0:
+ *     the wire on each mode, whether a path starts there (0 or 1), the mode of each qubit. `tables + JOZKERAL_MODES_AT` with
+ *     length JOZKERAL_MAX_QUBITS is `modes` for the calls on a state.
  */
 uint64_t jozkeral_compile(const uint8_t *tape, size_t tape_len, double *work, size_t work_len, uint32_t *marks, size_t marks_len,
                           double *ops, size_t ops_len, uint64_t *place, size_t place_len, uint64_t *report, size_t report_len,
@@ -181,8 +219,8 @@ uint64_t jozkeral_probability(size_t n, const double *state, size_t state_len, c
 
 /*
  * Shots of all n qubits: questions 16, 20, 21 and 22. draws: n numbers for each shot, from 0 up to but not 1, used in mode order.
- * out: written if the answer is 0, two words for each shot, low first, with qubit q's bit where jozkeral_probability has it; later
- * places keep their values.
+ * out: written if the answer is 0, JOZKERAL_INDEX_WORDS for each shot, low first, with qubit q's bit where jozkeral_probability has
+ * it; later places keep their values.
  */
 uint64_t jozkeral_sample(size_t n, const double *state, size_t state_len, const uint16_t *modes, size_t modes_len, size_t shots,
                          const double *draws, size_t draws_len, double *work, size_t work_len, uint64_t *out, size_t out_len,
@@ -204,7 +242,9 @@ uint64_t jozkeral_sample(size_t n, const double *state, size_t state_len, const 
     if (no) { printf("refused %d at %d\n", (int)no, (int)place[0]); return 1; }
     printf("Z:");
     for (size_t q = 0; q < N; q++)
-        if (jozkeral_expectation_z(N, state, JOZKERAL_STATE_PLACES(N), tables + 256, 128, q, place, 1, z, 1) == 0) printf(" %g", z[0]);
+        if (jozkeral_expectation_z(N, state, JOZKERAL_STATE_PLACES(N), tables + JOZKERAL_MODES_AT, JOZKERAL_MAX_QUBITS, q,
+                                   place, 1, z, 1) == JOZKERAL_OK)
+            printf(" %g", z[0]);
     printf("\n");
 */
 

@@ -1,5 +1,6 @@
 //! Random queries of every kind, and answers beside each other.
 
+use crate::layout::index_of;
 use oracle::answer::Answer;
 use oracle::bits::same;
 use oracle::query::Query;
@@ -19,7 +20,7 @@ pub fn queries(rng: &mut Rng, n: usize) -> Vec<Query> {
         Query::Zz(any(rng), any(rng)),
         Query::Product((0..n).collect()),
         Query::Product(listed(rng, n)),
-        Query::Probability(u128::from(rng.word()) | u128::from(rng.word()) << 64),
+        Query::Probability(index_of(rng.word(), rng.word())),
     ];
     for _ in 0..3 {
         let qs = if rng.chance(1, 2) { rng.subset(n) } else { listed(rng, n) };

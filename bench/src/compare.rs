@@ -1,7 +1,7 @@
 //! Original and port on the same random operands, bit for bit; all NaNs count as one.
 
 use crate::inputs::{any, block, matrix, root, BLOCKS, KINDS};
-use crate::original_side::{self as rust, mat2, mat4, Flat2, Flat4};
+use crate::original_side::{self as rust, mat2, mat4, Flat2, Flat4, FLAT2, FLAT4};
 use crate::port::*;
 use oracle::bits::{same, texts};
 use oracle::rng::Rng;
@@ -66,10 +66,10 @@ pub fn compare(seed: u64, count: usize, others: usize) -> bool {
             entries(&detect::swap_qubits(mat4(a)))
         }),
         of_one("map1", rng, others, leaf_majorana_map1, |u: &Flat2| {
-            flat(8, detect::majorana_map1(mat2(u)))
+            flat(FLAT2, detect::majorana_map1(mat2(u)))
         }),
         of_one("map2", rng, others, leaf_majorana_map2, |u: &Flat4| {
-            flat(32, detect::majorana_map2(mat4(u)))
+            flat(FLAT4, detect::majorana_map2(mat4(u)))
         }),
         classes(rng, others),
         crate::states::compare(rng, others),
@@ -179,7 +179,7 @@ fn classes(rng: &mut Rng, count: usize) -> bool {
             let kind = rng.pick(&KINDS);
             matrix(rng, kind)
         };
-        let mut got = vec![0.0; 32];
+        let mut got = vec![0.0; FLAT4];
         let code = classify2(relabel, TOL, &u, &mut got);
         if code >= 8 && DIAGONALS.into_iter().any(|places| lacks_phase(&u, places)) {
             continue;
@@ -204,24 +204,24 @@ fn classes(rng: &mut Rng, count: usize) -> bool {
 /// wrong call shows and does no harm.
 fn lengths() -> bool {
     let mut tally = Tally::new("lengths");
-    let operand = [1.0; 32];
+    let operand = [1.0; FLAT4];
     let of_two: [(Of2, usize, usize); 3] =
-        [(leaf_mul2, 8, 8), (leaf_kron, 8, 32), (leaf_mul4, 32, 32)];
+        [(leaf_mul2, FLAT2, FLAT2), (leaf_kron, FLAT2, FLAT4), (leaf_mul4, FLAT4, FLAT4)];
     for (f, len, result) in of_two {
         let a = &operand[..len];
         kept(&mut tally, result, |out| call2(f, a, a, out));
     }
     let of_one: [(Of1, usize); 5] = [
-        (leaf_dag2, 8),
-        (leaf_dag4, 32),
-        (leaf_swap_qubits, 32),
-        (leaf_majorana_map1, 8),
-        (leaf_majorana_map2, 32),
+        (leaf_dag2, FLAT2),
+        (leaf_dag4, FLAT4),
+        (leaf_swap_qubits, FLAT4),
+        (leaf_majorana_map1, FLAT2),
+        (leaf_majorana_map2, FLAT4),
     ];
     for (f, len) in of_one {
         kept(&mut tally, len, |out| call1(f, &operand[..len], out));
     }
-    kept(&mut tally, 32, |out| {
+    kept(&mut tally, FLAT4, |out| {
         classify2(true, TOL, &operand, out);
     });
     tally.end()
@@ -229,7 +229,7 @@ fn lengths() -> bool {
 
 /// Calls with every length up to a few places too many; the other places must keep their values.
 fn kept(tally: &mut Tally, result: usize, call: impl Fn(&mut [f64])) {
-    const OLD: [f64; 64] = [7.0; 64];
+    const OLD: [f64; 2 * FLAT4] = [7.0; 2 * FLAT4];
     for length in 0..result + 4 {
         let mut buffer = OLD;
         call(&mut buffer[..length]);

@@ -1,7 +1,8 @@
 //! The public `compile`, from the tape to the report and the operations: port and original on random lists.
 
+use crate::layout::{word, OP_PLACES};
 use crate::lent::Lent;
-use oracle::compiled::answer::{answer, Compiled, PLACES};
+use oracle::compiled::answer::{answer, Compiled};
 use oracle::compiled::graphs;
 use oracle::families::{phases, FAMILIES};
 use oracle::list::{List, RELABEL};
@@ -9,7 +10,7 @@ use oracle::rng::Rng;
 use oracle::tape::tape;
 use original::gate::Gate;
 
-/// Lists of 128 wires and 1,024 blocks for each thousand of the others.
+/// Lists of as many wires and blocks as there may be for each thousand of the others.
 const WIDE: usize = 2;
 
 /// What was compared of a family.
@@ -40,7 +41,7 @@ struct Sides {
 
 fn sides(list: &List) -> Sides {
     let (want, seen) = answer(list);
-    let (got, kept) = ported(list, want.ops.len() / PLACES);
+    let (got, kept) = ported(list, want.ops.len() / OP_PLACES);
     let same = want.words() == got.words() && kept;
     Sides { want, got, same, apart: seen.apart }
 }
@@ -66,9 +67,9 @@ impl Counts {
             self.apart_differ += usize::from(!same);
             return;
         }
-        *(if want.report[12] == 1 { &mut self.angled } else { &mut self.exact }) += 1;
-        self.operations += want.ops.len() / PLACES;
-        self.orderings[want.report[13] as usize] += 1;
+        *(if want.report[word::ANGLED] == 1 { &mut self.angled } else { &mut self.exact }) += 1;
+        self.operations += want.ops.len() / OP_PLACES;
+        self.orderings[want.report[word::ORDERING] as usize] += 1;
         if !same {
             self.differ += 1;
             let list = shrunk(list);
@@ -109,7 +110,7 @@ fn shrunk(mut list: List) -> List {
     list
 }
 
-/// Compares `count` lists of each family, of small graphs, and some of 128 wires.
+/// Compares `count` lists of each family, of small graphs, and some of as many wires as there may be.
 pub fn compare(rng: &mut Rng, count: usize) -> bool {
     let mut well = true;
     for (name, family) in FAMILIES {
@@ -130,7 +131,7 @@ fn known_differences() -> bool {
         (of(0, vec![Cz(0, 1), Rz(1, 0.3), Phase(0, 2.0), Cz(0, 1)]), [0, 1]),
     ];
     let differs = |(list, interactions): &&(List, [u64; 2])| {
-        [answer(list).0.report[6], ported(list, 3).0.report[6]] == *interactions
+        [answer(list).0, ported(list, 3).0].map(|c| c.report[word::INTERACTIONS]) == *interactions
     };
     let found = lists.iter().filter(differs).count();
     println!("compile known differences: {found} of {}", lists.len());

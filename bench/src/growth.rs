@@ -2,6 +2,7 @@
 
 use crate::circuits::{brick_wall, rotations};
 use crate::clock::times;
+use crate::layout::{MAX_GATES, MAX_QUBITS};
 use crate::pieces::calls::{Both, Kind};
 use crate::pieces::{tapes, Each};
 use crate::rows::Row;
@@ -9,8 +10,8 @@ use crate::times::warm_heap;
 use oracle::rng::Rng;
 
 /// Numbers of qubits, with 1,000 gates where there are any; and numbers of gates, on 60 qubits.
-const SIZES: [usize; 9] = [8, 12, 16, 24, 32, 48, 64, 96, 128];
-const GATES: [usize; 9] = [64, 96, 128, 192, 256, 384, 512, 768, 1024];
+const SIZES: [usize; 9] = [8, 12, 16, 24, 32, 48, 64, 96, MAX_QUBITS];
+const GATES: [usize; 9] = [64, 96, 128, 192, 256, 384, 512, 768, MAX_GATES];
 const QUBITS: usize = 60;
 
 /// Rounds of which the least counts.
@@ -108,7 +109,7 @@ pub fn pieces(seed: u64, each: Each) {
         tapes::whole_run(&RUN.at(n), &wall, each);
         tapes::compile(&COMPILE.at(n), &wall, each);
     }
-    let turns = rotations(rng, QUBITS, GATES[GATES.len() - 1]);
+    let turns = rotations(rng, QUBITS, MAX_GATES);
     for gates in GATES {
         tapes::compile(&WALL.at(gates), &brick_wall(QUBITS, gates), each);
         let mut first = turns.clone();

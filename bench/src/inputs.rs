@@ -1,5 +1,6 @@
 //! Random operands of every kind that a float has.
 
+use crate::original_side::Flat4;
 use oracle::rng::Rng;
 use oracle::tape::{entries, NAMED2};
 use original::access::detect::access as detect;
@@ -102,7 +103,7 @@ pub enum Block {
 /// All of them.
 pub const BLOCKS: [Block; 3] = [Block::Named, Block::Turned, Block::Matchgate];
 
-pub fn block(rng: &mut Rng, kind: Block) -> [f64; 32] {
+pub fn block(rng: &mut Rng, kind: Block) -> Flat4 {
     let m = match kind {
         Block::Named => named(rng),
         Block::Turned => {
@@ -116,7 +117,7 @@ pub fn block(rng: &mut Rng, kind: Block) -> [f64; 32] {
             [[a, z, z, b], [z, e, f, z], [z, g, h, z], [c, z, z, d]]
         }
     };
-    entries(&m).try_into().expect("32 entries")
+    entries(&m).try_into().expect("a 4 by 4 matrix")
 }
 
 /// The matrix of a named two-qubit gate.

@@ -1,7 +1,8 @@
 //! The slices that the port's `compile` and `run` get: old values in them, and a few places more than must be there.
 
 use crate::jozkeral::{self, Refusal, Report, Work};
-use oracle::compiled::answer::{Compiled, PLACES};
+use crate::layout::{question, state_places, table, work_floats, work_marks, OP_PLACES};
+use oracle::compiled::answer::Compiled;
 
 /// What stands in the slices before a call, and in the places that a call must leave alone.
 pub const OLD: f64 = 7.0;
@@ -22,7 +23,7 @@ pub struct Told {
 
 impl Told {
     fn of((report, answer): (Report, Result<(), Refusal>)) -> Told {
-        Told { refused: answer.map_or_else(|r| [r.number, r.place], |()| [0, 0]), report }
+        Told { refused: Refusal::told(&answer), report }
     }
 
     /// Whether every number of the report is zero, as in a refusal.
@@ -37,24 +38,24 @@ impl Told {
 impl Lent {
     /// For so many gates, qubits and operations; `more` places more in each slice.
     pub fn new(gates: usize, n: usize, operations: usize, more: usize) -> Lent {
-        let records = gates + n;
         Lent {
             work: Work {
-                floats: vec![OLD; 64 * records + more],
-                marks: vec![OLD_MARK; 32 * records + more],
+                floats: vec![OLD; work_floats(gates, n) + more],
+                marks: vec![OLD_MARK; work_marks(gates, n) + more],
             },
-            ops: vec![OLD; PLACES * operations + more],
-            state: vec![OLD; 4 * n * n + 2 * n + more],
+            ops: vec![OLD; OP_PLACES * operations + more],
+            state: vec![OLD; state_places(n) + more],
             more,
         }
     }
 
-    /// One place less in the slice that the question asks about: 9 (work's floats), 10 or 15; none if it has no place.
-    pub fn short(mut self, question: u64) -> Option<Lent> {
-        let slice = match question {
-            9 => &mut self.work.floats,
-            10 => &mut self.ops,
-            _ => &mut self.state,
+    /// One place less in the slice that the question asks about: work's floats, operations or state; none if it has no place.
+    pub fn short(mut self, asked: u64) -> Option<Lent> {
+        let slice = match asked {
+            question::WORK => &mut self.work.floats,
+            question::OPERATIONS => &mut self.ops,
+            question::STATE => &mut self.state,
+            _ => panic!("question {asked} asks about no such slice"),
         };
         slice.pop().map(|_| self)
     }
@@ -84,7 +85,9 @@ impl Lent {
         let (floats, last_floats) = needed(&self.work.floats, self.more);
         let (marks, last_marks) = needed(&self.work.marks, self.more);
         let worked = match number {
-            1..=9 => old(floats) && marks.iter().all(|&x| x == OLD_MARK),
+            question::HEADER..=question::WORK => {
+                old(floats) && marks.iter().all(|&x| x == OLD_MARK)
+            }
             _ => floats.iter().all(|x| x.to_bits() == 0) && marks.iter().all(|&x| x == 0),
         };
         worked
@@ -98,8 +101,8 @@ impl Lent {
 
     /// The answer in the oracle's form; entries of tables from n on are left out if they are zero.
     pub fn compiled(&self, told: &Told, n: usize) -> Compiled {
-        let table = |k: usize| {
-            let (used, unused) = told.report.tables[128 * k..128 * (k + 1)].split_at(n);
+        let table = |which: usize| {
+            let (used, unused) = told.report.table(which).split_at(n);
             let all = if unused.iter().all(|&x| x == 0) { used } else { unused };
             all.iter().map(|&x| x.into()).collect()
         };
@@ -107,7 +110,7 @@ impl Lent {
             refused: told.refused,
             report: told.report.words,
             measures: told.report.measures,
-            tables: [table(0), table(1), table(2)],
+            tables: [table::ORDER, table::STARTS, table::MODES].map(table),
             ops: self.ops().to_vec(),
         }
     }

@@ -21,3 +21,5 @@ pub mod runs;
 mod slice;
 mod states;
 pub mod times;
+
+pub use oracle::layout;

@@ -1,11 +1,16 @@
 //! The original's functions, on matrices that lie in the same buffers as the port's.
 
+use crate::layout::given_floats;
 use original::gate::{Mat2, Mat4};
 
+/// Floats of a 2 by 2 matrix, and of a 4 by 4 one.
+pub const FLAT2: usize = given_floats(1);
+pub const FLAT4: usize = given_floats(2);
+
 /// Entries of a 2 by 2 matrix, row by row, real before imaginary.
-pub type Flat2 = [f64; 8];
+pub type Flat2 = [f64; FLAT2];
 /// Entries of a 4 by 4 matrix.
-pub type Flat4 = [f64; 32];
+pub type Flat4 = [f64; FLAT4];
 
 /// The buffer as the original's 2 by 2 matrix.
 pub fn mat2(m: &Flat2) -> &Mat2 {

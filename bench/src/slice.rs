@@ -1,9 +1,10 @@
 //! A state in the port's form: its slice and mode table. Calls on it get exactly the work that question 20 asks for.
 
-use crate::jozkeral::{self, State};
+use crate::jozkeral::{self, Refusal, State};
+use crate::layout::{covariance_places, index_of, index_words, kind, query_places, INDEX_WORDS};
 use crate::lent::OLD;
 use oracle::answer::Answer;
-use oracle::compiled::answer::{Places, PLACES};
+use oracle::compiled::answer::{filled, Places};
 use oracle::query::Query;
 use original::access::detect::GaussOp;
 use original::access::state::{access, GaussianState};
@@ -27,7 +28,7 @@ impl Slice {
 
     /// The original's state of the same numbers.
     pub fn original(&self) -> GaussianState {
-        let (m, d) = self.places.split_at(4 * self.n * self.n);
+        let (m, d) = self.places.split_at(covariance_places(self.n));
         access::state(self.n, m.to_vec(), d.to_vec(), self.mode_of_qubit())
     }
 
@@ -39,7 +40,7 @@ impl Slice {
     /// Applies an operation; the number of a refusal, or 0.
     pub fn apply(&mut self, op: &[f64]) -> u64 {
         let answer = jozkeral::apply(self.n, &mut self.places, &self.modes, op);
-        answer.map_or_else(|r| r.number, |()| 0)
+        Refusal::told(&answer)[0]
     }
 
     /// The answer to a query, and whether work and output are afterwards as they must be.
@@ -58,14 +59,16 @@ impl Slice {
                 state.marginal_probability(qs, &bits, work).map(Answer::Value)
             }
             Query::Probability(x) => {
-                state.probability(*x as u64, (x >> 64) as u64, work).map(Answer::Value)
+                let [low, high] = index_words(*x);
+                state.probability(low, high, work).map(Answer::Value)
             }
             Query::Sample(shots, draws) => {
-                let mut out = vec![OLD_WORD; 2 * shots + GUARD];
-                let (words, rest) = out.split_at_mut(2 * shots);
+                let mut out = vec![OLD_WORD; INDEX_WORDS * shots + GUARD];
+                let (words, rest) = out.split_at_mut(INDEX_WORDS * shots);
                 let answer = state.sample(*shots, draws, work, words);
                 well = rest.iter().all(|&x| x == OLD_WORD);
-                answer.map(|()| Answer::Shots(words.chunks(2).map(shot).collect()))
+                let shots = words.chunks(INDEX_WORDS).map(|w| index_of(w[0], w[1]));
+                answer.map(|()| Answer::Shots(shots.collect()))
             }
         };
         let zero = |x: &f64| x.to_bits() == 0;
@@ -77,20 +80,11 @@ impl Slice {
 
 /// The places of an operation.
 pub fn places(op: &GaussOp) -> Places {
-    let mut out = [0.0; PLACES];
-    let (kind, mode, q) = match op {
-        GaussOp::One { mode, q } => (1.0, *mode, q.as_flattened()),
-        GaussOp::Two { mode, q } => (2.0, *mode, q.as_flattened()),
-        GaussOp::Interaction(_) => (3.0, 0, &[][..]),
-    };
-    (out[0], out[1]) = (kind, mode as f64);
-    out[2..2 + q.len()].copy_from_slice(q);
-    out
-}
-
-/// A shot from its two words, low first.
-fn shot(words: &[u64]) -> u128 {
-    u128::from(words[0]) | u128::from(words[1]) << 64
+    match op {
+        GaussOp::One { mode, q } => filled(kind::ONE, *mode, q.as_flattened()),
+        GaussOp::Two { mode, q } => filled(kind::TWO, *mode, q.as_flattened()),
+        GaussOp::Interaction(_) => filled(kind::INTERACTION, 0, &[]),
+    }
 }
 
 /// The places of work that question 20 asks for; none if the answer is given before it.
@@ -102,7 +96,7 @@ fn room(n: usize, query: &Query) -> Option<usize> {
         Query::Marginal(qs, bits) => agreeing(n, qs, bits),
         Query::Probability(_) | Query::Sample(..) => Some(n),
     };
-    modes.map(|k| 4 * k * k)
+    modes.map(query_places)
 }
 
 /// How many qubits are listed an odd number of times.

@@ -2,6 +2,7 @@
 
 use crate::asks;
 use crate::compare::Tally;
+use crate::layout::state_places;
 use crate::pieces::calls::{mixed, operation, Kind, SIZES};
 use crate::slice::{places, Slice};
 use oracle::answer::answer_on;
@@ -55,7 +56,7 @@ fn any(rng: &mut Rng, n: usize) -> Slice {
         true => crate::inputs::any(rng),
         false => 2.0 * rng.unit() - 1.0,
     };
-    let places = (0..4 * n * n + 2 * n).map(|_| float(rng)).collect();
+    let places = (0..state_places(n)).map(|_| float(rng)).collect();
     Slice { n, places, modes: rng.permutation(n).into_iter().map(|k| k as u16).collect() }
 }
 

@@ -1,21 +1,16 @@
 //! The engine, safely: the calls of the static library (include/jozkeral.h) on Rust's types. The
 //! library keeps nothing and allocates nothing; each call here lends it slices that are long enough
-//! for every tape of at most 128 qubits and 1,024 gates.
+//! for every tape that it takes.
 
+use crate::layout::{
+    index_of, index_words, kind, measure, ops_places, ordering, query_places, state_places, table,
+    word, INDEX_WORDS, MAX_GATES, MAX_QUBITS, MAX_SHOTS, OP_PLACES,
+};
 use crate::library as c;
 pub use crate::library::Refusal;
 
 #[cfg(test)]
 pub mod fake;
-
-/// Most qubits and most gates of a tape.
-pub const MAX_QUBITS: usize = 128;
-pub const MAX_GATES: usize = 1024;
-/// Most shots of one call of `sample`.
-pub const MAX_SHOTS: usize = 65_536;
-
-/// f64 places of one operation.
-const OPERATION: usize = 18;
 
 /// How the order of the wires was chosen.
 #[derive(Clone, Copy, Debug, PartialEq, Eq)]
@@ -68,20 +63,21 @@ pub enum Operation {
 
 impl Operation {
     /// Its places in the library's slice: kind, mode, 16 numbers.
-    fn places(&self) -> [f64; OPERATION] {
-        let mut places = [0.0; OPERATION];
+    fn places(&self) -> [f64; OP_PLACES] {
+        let mut places = [0.0; OP_PLACES];
         match self {
             Operation::One { mode, map } => {
-                (places[0], places[1]) = (1.0, *mode as f64);
+                (places[0], places[1]) = (kind::ONE, *mode as f64);
                 places[2..6].copy_from_slice(map);
             }
             Operation::Two { mode, map } => {
-                (places[0], places[1]) = (2.0, *mode as f64);
+                (places[0], places[1]) = (kind::TWO, *mode as f64);
                 places[2..].copy_from_slice(map);
             }
             Operation::Interaction { modes, block, unit } => {
-                let numbers = [3.0, modes.0 as f64, *block as f64, modes.1 as f64, unit.0, unit.1];
-                places[..6].copy_from_slice(&numbers);
+                (places[0], places[1]) = (kind::INTERACTION, modes.0 as f64);
+                let numbers = [*block as f64, modes.1 as f64, unit.0, unit.1];
+                places[2..6].copy_from_slice(&numbers);
             }
         }
         places
@@ -90,9 +86,9 @@ impl Operation {
     /// The operation of its places.
     fn of(places: &[f64]) -> Operation {
         let mode = places[1] as usize;
-        match places[0] as u8 {
-            1 => Operation::One { mode, map: std::array::from_fn(|i| places[2 + i]) },
-            2 => Operation::Two { mode, map: std::array::from_fn(|i| places[2 + i]) },
+        match places[0] {
+            kind::ONE => Operation::One { mode, map: std::array::from_fn(|i| places[2 + i]) },
+            kind::TWO => Operation::Two { mode, map: std::array::from_fn(|i| places[2 + i]) },
             _ => Operation::Interaction {
                 modes: (mode, places[3] as usize),
                 block: places[2] as usize,
@@ -142,7 +138,7 @@ impl State {
     /// All qubits 0, with the identity as mode table.
     pub fn vacuum(n: usize) -> State {
         let dim = 2 * n;
-        let mut places = vec![0.0; dim * dim + dim];
+        let mut places = vec![0.0; state_places(n)];
         for k in (0..dim).step_by(2) {
             places[k * dim + k + 1] = 1.0;
             places[(k + 1) * dim + k] = -1.0;
@@ -222,7 +218,7 @@ impl Engine for Library {
     fn run(&self, tape: &[u8]) -> Result<Run, Refusal> {
         let (mut work, mut ops) = lent();
         let n = tape.get(2).map_or(0, |n| usize::from(*n).min(MAX_QUBITS));
-        let mut places = vec![0.0; 4 * n * n + 2 * n];
+        let mut places = vec![0.0; state_places(n)];
         let (report, answer) = c::run(tape, &mut work, &mut ops, &mut places);
         answer?;
         let state = State { n, places, modes: report.modes()[..n].to_vec() };
@@ -247,58 +243,63 @@ impl Engine for Library {
     }
 
     fn probability(&self, s: &State, index: u128) -> Result<f64, Refusal> {
-        s.asked().probability(index as u64, (index >> 64) as u64, &mut query_work(s.n))
+        let [low, high] = index_words(index);
+        s.asked().probability(low, high, &mut query_work(s.n))
     }
 
     fn sample(&self, s: &State, shots: usize, draws: &[f64]) -> Result<Vec<u128>, Refusal> {
-        let mut out = vec![0; 2 * shots.min(MAX_SHOTS)];
+        let mut out = vec![0; INDEX_WORDS * shots.min(MAX_SHOTS)];
         s.asked().sample(shots, draws, &mut query_work(s.n), &mut out)?;
-        Ok(out.chunks(2).map(|w| u128::from(w[1]) << 64 | u128::from(w[0])).collect())
+        Ok(out.chunks(INDEX_WORDS).map(|w| index_of(w[0], w[1])).collect())
     }
 }
 
-/// Work for a query: dim² places for the largest dimension.
+/// Work for any query.
 fn query_work(n: usize) -> Vec<f64> {
-    vec![0.0; 4 * n.min(MAX_QUBITS).pow(2)]
+    vec![0.0; query_places(n.min(MAX_QUBITS))]
 }
 
-/// What is lent to compile or run a tape, with room for the largest: questions 9 and 10. A block
-/// becomes at most three operations, two rotations and an interaction.
+/// What is lent to compile or run a tape, with room for the largest: questions 9 and 10.
 fn lent() -> (c::Work, Vec<f64>) {
-    let records = MAX_GATES + MAX_QUBITS;
-    (c::Work::new(MAX_GATES, MAX_QUBITS), vec![0.0; OPERATION * 3 * records])
+    (c::Work::new(MAX_GATES, MAX_QUBITS), vec![0.0; ops_places(MAX_GATES, MAX_QUBITS)])
 }
 
 /// What the library wrote of a tape that it accepted.
 fn compiled(written: &c::Report, ops: &[f64]) -> Compiled {
-    let count = written.words[8] as usize;
-    let operations = ops.chunks(OPERATION).take(count).map(Operation::of).collect();
+    let ops = ops.chunks(OP_PLACES).take(written.operations());
+    let operations = ops.map(Operation::of).collect();
     Compiled { report: report(written), operations }
 }
 
 /// The report from the library's words and tables.
 fn report(written: &c::Report) -> Report {
     let w = &written.words;
-    let n = w[0] as usize;
-    let table = |k: usize| written.tables[k * MAX_QUBITS..][..n].iter().map(|x| usize::from(*x));
+    let n = w[word::N] as usize;
+    let says = |word: usize| w[word] != 0;
+    let table = |which: usize| written.table(which)[..n].iter().map(|x| usize::from(*x));
     Report {
         n,
-        blocks: w[1],
-        two_qubit: w[2],
-        gaussian: w[3],
-        bad: w[4],
-        nonadjacent: w[5],
-        interactions: w[6],
-        swaps: w[7],
-        number_conserving: w[9] != 0,
-        exact: w[10] != 0,
-        free: w[11] != 0,
-        angled: w[12] != 0,
-        ordering: [Ordering::Identity, Ordering::Paths, Ordering::Greedy][w[13] as usize],
-        fraction: written.measures[0],
-        max_residual: written.measures[1],
-        order: table(0).collect(),
-        starts: table(1).map(|x| x != 0).collect(),
-        modes: table(2).collect(),
+        blocks: w[word::BLOCKS],
+        two_qubit: w[word::TWO],
+        gaussian: w[word::GAUSSIAN],
+        bad: w[word::BAD],
+        nonadjacent: w[word::NONADJACENT],
+        interactions: w[word::INTERACTIONS],
+        swaps: w[word::SWAPS],
+        number_conserving: says(word::CONSERVING),
+        exact: says(word::EXACT),
+        free: says(word::FREE),
+        angled: says(word::ANGLED),
+        ordering: match w[word::ORDERING] {
+            ordering::IDENTITY => Ordering::Identity,
+            ordering::PATHS => Ordering::Paths,
+            ordering::GREEDY => Ordering::Greedy,
+            other => unreachable!("there is no ordering {other}"),
+        },
+        fraction: written.measures[measure::FRACTION],
+        max_residual: written.measures[measure::RESIDUAL],
+        order: table(table::ORDER).collect(),
+        starts: table(table::STARTS).map(|x| x != 0).collect(),
+        modes: table(table::MODES).collect(),
     }
 }

@@ -2,6 +2,7 @@
 //! answered, and shots are taken.
 
 use crate::engine::{Compiled, Engine, Refusal, State};
+use crate::layout::question;
 use crate::refusals::{self, Explained};
 use crate::source::Source;
 
@@ -142,7 +143,7 @@ impl Iterator for Shots<'_> {
         let drawn: Vec<f64> = self.draws.by_ref().take(count * self.state.n()).collect();
         let before = (self.done * self.state.n()) as u64;
         let name_draw = |r: Refusal| match r.number {
-            22 => Refusal { place: r.place + before, ..r },
+            question::DRAW => Refusal { place: r.place + before, ..r },
             _ => r,
         };
         let portion = self.engine.sample(self.state, count, &drawn).map_err(name_draw);

@@ -15,6 +15,7 @@ pub mod fault;
 pub mod gates;
 pub mod job;
 pub mod json;
+pub mod layout;
 mod library;
 mod line;
 pub mod list;

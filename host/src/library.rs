@@ -1,8 +1,12 @@
 //! The C symbols of libengine.a (include/jozkeral.h), each on slices in place of pointers and
-//! lengths. This crate's only module with unsafe code; it needs no other, so that tests/abi and bench
-//! take the file as it is. Every call here is sound for the same reason: a pointer passes with the
-//! length of its slice, the slices of one call do not overlap (Rust lends them apart), and the library
-//! keeps none of them.
+//! lengths. This crate's only module with unsafe code; it needs no other but `layout`, so that
+//! tests/abi and bench take the two files as they are. Every call here is sound for the same reason: a
+//! pointer passes with the length of its slice, the slices of one call do not overlap (Rust lends them
+//! apart), and the library keeps none of them.
+
+use crate::layout::{
+    table, word, work_floats, work_marks, MAX_QUBITS, MEASURES, REPORT_WORDS, TABLE_PLACES,
+};
 
 /// Why a call was refused: the question that has no for an answer (its number, 1 to 22), and the
 /// place that it names.
@@ -12,23 +16,44 @@ pub struct Refusal {
     pub place: u64,
 }
 
+impl Refusal {
+    /// Number and place of an answer, as the library gives them: zeros where it is no refusal.
+    pub fn told<T>(answer: &Result<T, Refusal>) -> [u64; 2] {
+        answer.as_ref().map_or_else(|r| [r.number, r.place], |_| [0, 0])
+    }
+}
+
 /// The report of a tape, as the header has it.
 #[derive(Clone, Debug, PartialEq)]
 pub struct Report {
-    pub words: [u64; 14],
-    pub measures: [f64; 2],
-    /// Order, path starts and modes, 128 places each.
-    pub tables: [u16; 384],
+    pub words: [u64; REPORT_WORDS],
+    pub measures: [f64; MEASURES],
+    /// One after the other.
+    pub tables: [u16; TABLE_PLACES],
 }
 
 impl Report {
     /// To be written over whole: no report has these numbers.
     fn blank() -> Report {
-        Report { words: [u64::MAX; 14], measures: [f64::NAN; 2], tables: [u16::MAX; 384] }
+        Report {
+            words: [u64::MAX; REPORT_WORDS],
+            measures: [f64::NAN; MEASURES],
+            tables: [u16::MAX; TABLE_PLACES],
+        }
+    }
+
+    /// How many operations there are.
+    pub fn operations(&self) -> usize {
+        self.words[word::OPERATIONS] as usize
+    }
+
+    /// One of the tables, with its unused places.
+    pub fn table(&self, which: usize) -> &[u16] {
+        &self.tables[which * MAX_QUBITS..][..MAX_QUBITS]
     }
 
     pub fn modes(&self) -> &[u16] {
-        &self.tables[256..]
+        self.table(table::MODES)
     }
 }
 
@@ -41,7 +66,7 @@ pub struct Work {
 impl Work {
     /// Enough for so many gates on n qubits: question 9.
     pub fn new(gates: usize, n: usize) -> Work {
-        Work { floats: vec![0.0; 64 * (gates + n)], marks: vec![0; 32 * (gates + n)] }
+        Work { floats: vec![0.0; work_floats(gates, n)], marks: vec![0; work_marks(gates, n)] }
     }
 }
 

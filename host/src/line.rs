@@ -1,6 +1,7 @@
 //! One line of a gate list: its words, and the record of a gate, a given matrix or a label.
 
 use crate::gates::{self, Form};
+use crate::layout::{given_floats, MAX_LABEL};
 use crate::tape::{Record, GIVEN1, GIVEN2};
 use crate::wording::count;
 
@@ -129,8 +130,8 @@ fn label(rest: &[String]) -> Result<Record, String> {
         _ => None,
     };
     let text = text.ok_or("a label is one text in quotes")?;
-    if text.len() > 40 || !text.bytes().all(|b| (0x20..=0x7E).contains(&b)) {
-        return Err("a label has at most 40 characters, all of them plain ASCII".into());
+    if text.len() > MAX_LABEL || !text.bytes().all(|b| (0x20..=0x7E).contains(&b)) {
+        return Err(format!("a label has at most {MAX_LABEL} characters, all of them plain ASCII"));
     }
     Ok(Record::Label(text.as_bytes().to_vec()))
 }
@@ -138,12 +139,13 @@ fn label(rest: &[String]) -> Result<Record, String> {
 /// A given matrix: its qubits, then its entries.
 fn matrix(rest: &[String], n: u8) -> Result<Record, String> {
     let arity = rest.iter().take_while(|w| !w.contains(',')).count();
-    let (code, size) = match arity {
-        1 => (GIVEN1, 4),
-        2 => (GIVEN2, 16),
+    let code = match arity {
+        1 => GIVEN1,
+        2 => GIVEN2,
         _ => return Err("`matrix` takes one or two qubits, then entries `re,im`".into()),
     };
     let (qubits, entries) = rest.split_at(arity);
+    let size = given_floats(arity) / 2;
     if entries.len() != size {
         let on = count(arity as u64, "qubit");
         return Err(format!("a matrix on {on} has {size} entries, not {}", entries.len()));

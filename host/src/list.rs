@@ -1,9 +1,9 @@
 //! The gate list as text: settings, then one gate or label a line. `HELP` describes the format for
 //! people; `line` reads the single lines.
 
-use crate::engine::MAX_GATES;
 use crate::fault::Fault;
 use crate::gates;
+use crate::layout::{MAX_GATES, MAX_QUBITS};
 use crate::line::{record, words};
 use crate::tape::{Header, Record};
 
@@ -146,8 +146,10 @@ fn set(header: &mut Header, name: &str, value: &str) -> Option<Result<(), String
 }
 
 fn qubits(value: &str) -> Result<u8, String> {
-    let n = value.parse().ok().filter(|n| *n <= 128);
-    n.ok_or_else(|| format!("`{value}` is no number of qubits: a whole number from 0 to 128"))
+    let n = value.parse().ok().filter(|n| usize::from(*n) <= MAX_QUBITS);
+    let none =
+        || format!("`{value}` is no number of qubits: a whole number from 0 to {MAX_QUBITS}");
+    n.ok_or_else(none)
 }
 
 fn tolerance(value: &str) -> Result<f64, String> {
@@ -170,9 +172,19 @@ fn switch(value: &str) -> Result<bool, String> {
 #[cfg(test)]
 mod tests {
     use super::*;
+    use crate::layout::MAX_LABEL;
 
     fn fault(text: &str) -> String {
         read(text, &[]).expect_err(text).to_string()
+    }
+
+    #[test]
+    fn the_help_has_the_limits() {
+        for text in
+            [format!(" 0 to {MAX_QUBITS};"), format!("a text of at most {MAX_LABEL} characters")]
+        {
+            assert!(HELP.contains(&text), "{text}");
+        }
     }
 
     #[test]

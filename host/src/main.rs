@@ -3,9 +3,10 @@
 mod stdout;
 
 use jozkeral::draws::{self, Splitmix64};
-use jozkeral::engine::{Library, MAX_SHOTS};
+use jozkeral::engine::Library;
 use jozkeral::fault::Fault;
 use jozkeral::job::{self, Outcome, Portion, Query, Shots};
+use jozkeral::layout::MAX_SHOTS;
 use jozkeral::options::{self, Command, Options};
 use jozkeral::report::{self, Context};
 use jozkeral::source::{Source, MOST_BYTES};

@@ -1,7 +1,7 @@
 //! The command line.
 
-use crate::engine::MAX_SHOTS;
 use crate::job::Query;
+use crate::layout::MAX_SHOTS;
 use crate::list::{self, Setting};
 use std::ffi::{OsStr, OsString};
 use std::os::unix::ffi::{OsStrExt, OsStringExt};
@@ -326,6 +326,7 @@ mod tests {
 
     #[test]
     fn shots_have_a_limit() {
+        assert!(USAGE.contains(&format!("; at most {MAX_SHOTS}\n")));
         assert_eq!(job("a --shots 65536").shots, Some(65536));
         let over = "--shots 65537: at most 65536 at a time; another seed gives others";
         assert_eq!(parsed("a --shots 65537"), Err(over.into()));

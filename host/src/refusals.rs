@@ -1,8 +1,9 @@
 //! Refusals in words: what the question with a number asks, why the answer was no, and what to do
 //! about it.
 
-use crate::engine::{Compiled, Engine, Refusal, MAX_GATES};
+use crate::engine::{Compiled, Engine, Refusal};
 use crate::job::Query;
+use crate::layout::{question, MAX_GATES, MAX_QUBITS};
 use crate::source::{Placed, Source};
 use crate::tape::Record;
 use crate::wording::{are, count};
@@ -26,17 +27,22 @@ pub fn explain(
     engine: &dyn Engine,
 ) -> Explained {
     let number = refusal.number;
-    let record = if (4..=8).contains(&number) { source.at(refusal.place) } else { None };
+    let record = if is_about_record(number) { source.at(refusal.place) } else { None };
     let why = match compiled {
         Some(compiled) => why_not_run(number, source, compiled),
         None => why_no_tape(number, source, record),
     };
     let (place, line) = match number {
-        4..=8 => at_record(refusal, source, record),
-        11..=13 => stops_at(source, engine),
+        _ if is_about_record(number) => at_record(refusal, source, record),
+        question::APART..=question::INTERACTION => stops_at(source, engine),
         _ => (None, None),
     };
-    Explained { refusal, place, line, why, advice: advice(number, source).to_string() }
+    Explained { refusal, place, line, why, advice: advice(number, source) }
+}
+
+/// Whether the place of a refusal is that of a record.
+fn is_about_record(number: u64) -> bool {
+    (question::GATES..=question::ENTRY).contains(&number)
 }
 
 fn at_record(
@@ -58,17 +64,21 @@ fn why_no_tape(number: u64, source: &Source, record: Option<&Placed>) -> String 
         _ => &[],
     };
     match number {
-        1 => "there is no whole header".into(),
-        2 => "there are more than 128 qubits, or flags above 7".into(),
-        3 => "the tolerance is no number from 0 to 0.001".into(),
-        4 => format!("there are more than {MAX_GATES} gates, and this is the first of them"),
-        5 => "the record is cut short, or its mark, code or label is unknown".into(),
-        6 => {
+        question::HEADER => "there is no whole header".into(),
+        question::SIZE => format!("there are more than {MAX_QUBITS} qubits, or flags above 7"),
+        question::TOLERANCE => "the tolerance is no number from 0 to 0.001".into(),
+        question::GATES => {
+            format!("there are more than {MAX_GATES} gates, and this is the first of them")
+        }
+        question::RECORD => "the record is cut short, or its mark, code or label is unknown".into(),
+        question::QUBIT => {
             let high = qubits.iter().find(|q| **q >= n).map_or(String::new(), |q| format!(" {q}"));
             format!("qubit{high} is not below {n}")
         }
-        7 => "a gate names the same qubit twice".into(),
-        8 => "an entry of the matrix is not finite, or its magnitude is above 2".into(),
+        question::REPEATED => "a gate names the same qubit twice".into(),
+        question::ENTRY => {
+            "an entry of the matrix is not finite, or its magnitude is above 2".into()
+        }
         _ => tools_fault(number),
     }
 }
@@ -83,20 +93,20 @@ fn why_not_run(number: u64, source: &Source, compiled: &Compiled) -> String {
     let r = &compiled.report;
     let of_blocks = |k: u64| format!("{k} of {}", count(r.blocks, "block"));
     match number {
-        11 => format!(
+        question::APART => format!(
             "there are matchgates whose wires are no neighbours in the order: {}",
             of_blocks(r.nonadjacent)
         ),
-        12 => format!(
+        question::BAD => format!(
             "the circuit is not free-fermion: {} {} neither matchgate nor diagonal",
             of_blocks(r.bad - r.nonadjacent),
             are(r.bad - r.nonadjacent)
         ),
-        13 => format!(
+        question::INTERACTION => format!(
             "there are interactions (controlled phases), which free fermions do not have: {}",
             of_blocks(r.interactions)
         ),
-        14 => {
+        question::LIMIT => {
             let (need, limit) = source.header().map_or((0, 0), |h| (h.covariance_bytes(), h.limit));
             format!("the covariance matrix needs {need} bytes, and the limit is {limit}")
         }
@@ -105,36 +115,41 @@ fn why_not_run(number: u64, source: &Source, compiled: &Compiled) -> String {
 }
 
 /// What to do about a refusal.
-fn advice(number: u64, source: &Source) -> &'static str {
+fn advice(number: u64, source: &Source) -> String {
+    if number == question::SIZE {
+        return format!("set the number of qubits: --set qubits=N, at most {MAX_QUBITS}");
+    }
     let header = source.header();
-    match number {
-        1 => "is this a tape? It begins with the bytes 51 48 and has a header of 20 bytes",
-        2 => "set the number of qubits: --set qubits=N, at most 128",
-        3 => "set the tolerance: --set tolerance=1e-10",
-        4 => "write gates that follow each other on the same qubits as one matrix",
-        5 => "see how the tape was made; --dump shows what can be read of it",
-        6 => "correct the qubit, or the number of qubits",
-        7 => "name different qubits",
-        8 => "give a unitary matrix",
-        11 if header.is_some_and(|h| !h.reorder) => {
+    let advice = match number {
+        question::HEADER => {
+            "is this a tape? It begins with the bytes 51 48 and has a header of 20 bytes"
+        }
+        question::TOLERANCE => "set the tolerance: --set tolerance=1e-10",
+        question::GATES => "write gates that follow each other on the same qubits as one matrix",
+        question::RECORD => "see how the tape was made; --dump shows what can be read of it",
+        question::QUBIT => "correct the qubit, or the number of qubits",
+        question::REPEATED => "name different qubits",
+        question::ENTRY => "give a unitary matrix",
+        question::APART if header.is_some_and(|h| !h.reorder) => {
             "let the engine look for an order: --set reorder=on"
         }
-        11 => {
+        question::APART => {
             "the pairs of wires with matchgates must form paths, without branches and rings: leave \
              out the bond that closes a ring, or move a wire there by swaps (with relabel on)"
         }
-        12 => {
+        question::BAD => {
             "write the gates of a matchgate next to each other on its pair of qubits, so that they \
              fuse into one block; a lone h, cnot or ccx is none. Another simulator is needed if \
              the circuit has no such form"
         }
-        13 => {
+        question::INTERACTION => {
             "leave out the controlled phases, or have them left out: --set drop=on answers for the \
              free part alone, which is not the whole circuit"
         }
-        14 => "raise the limit: --set limit=BYTES",
+        question::LIMIT => "raise the limit: --set limit=BYTES",
         _ => "please report it with the list",
-    }
+    };
+    advice.to_string()
 }
 
 /// Where a list stops being accepted: the gate after its longest beginning that is.
@@ -155,21 +170,21 @@ fn stops_at(source: &Source, engine: &dyn Engine) -> (Option<String>, Option<usi
 
 /// Whether a refusal is a fault of the list or the tape itself, or of the tool, and not the engine's verdict on a circuit.
 pub fn is_fault(refusal: Refusal) -> bool {
-    !(11..=14).contains(&refusal.number)
+    !(question::APART..=question::LIMIT).contains(&refusal.number)
 }
 
 /// Why a question about an accepted run was refused.
 pub fn query_refused(query: &Query, refusal: Refusal, n: usize) -> String {
     match (refusal.number, query) {
-        (18, Query::Marginal(parts)) => match parts.iter().find(|(_, bit)| *bit > 1) {
+        (question::BITS, Query::Marginal(parts)) => match parts.iter().find(|(_, bit)| *bit > 1) {
             Some((qubit, bit)) => format!("bit {bit} of qubit {qubit} is neither 0 nor 1"),
-            None => tools_fault(18),
+            None => tools_fault(question::BITS),
         },
-        (19, Query::Product(_) | Query::Marginal(_)) => {
+        (question::LISTED, Query::Product(_) | Query::Marginal(_)) => {
             let place = usize::try_from(refusal.place).ok();
             match place.and_then(|place| query.qubits().nth(place)) {
                 Some(qubit) => format!("qubit {qubit} is not below {n}"),
-                None => tools_fault(19),
+                None => tools_fault(question::LISTED),
             }
         }
         (number, _) => tools_fault(number),
@@ -179,7 +194,7 @@ pub fn query_refused(query: &Query, refusal: Refusal, n: usize) -> String {
 /// Why shots were refused.
 pub fn shots_refused(refusal: Refusal) -> String {
     match refusal.number {
-        22 => format!("draw {} is not from 0 and below 1", refusal.place + 1),
+        question::DRAW => format!("draw {} is not from 0 and below 1", refusal.place + 1),
         number => tools_fault(number),
     }
 }

@@ -1,11 +1,11 @@
 //! What the tool was given: a gate list or a tape, as bytes for the engine, with the line or the
 //! offset of each record.
 
-use crate::engine::MAX_GATES;
 use crate::fault::Fault;
 use crate::gates;
+use crate::layout::{HEADER_BYTES, MAX_GATES};
 use crate::list::{self, List, Setting};
-use crate::tape::{record_at, Header, Record, HEADER_BYTES, HEADER_MARK};
+use crate::tape::{record_at, Header, Record, HEADER_MARK};
 use crate::text;
 
 /// Most bytes of a list or a tape: several times what the largest gates fill, so that a file given by mistake takes no room.

@@ -2,14 +2,12 @@
 //! the engine makes of a tape is the engine's own affair.
 
 use crate::gates;
+use crate::layout::{covariance_bytes, given_floats, HEADER_BYTES};
 
 /// The mark that a tape begins with.
 pub const HEADER_MARK: [u8; 2] = [0x51, 0x48];
 const GATE_MARK: [u8; 2] = [0x51, 0x47];
 const LABEL_MARK: [u8; 2] = [0x51, 0x4C];
-
-/// Bytes of the header.
-pub const HEADER_BYTES: usize = 20;
 
 /// The code of a given 2 by 2 matrix, and of a given 4 by 4 one.
 pub const GIVEN1: u8 = 0x0F;
@@ -45,7 +43,7 @@ impl Header {
 
     /// The bytes of the covariance matrix: question 14.
     pub fn covariance_bytes(&self) -> u64 {
-        8 * (2 * u64::from(self.qubits)).pow(2)
+        covariance_bytes(self.qubits.into())
     }
 
     pub fn bytes(&self) -> Vec<u8> {
@@ -138,8 +136,8 @@ pub fn record_at(tape: &[u8], offset: usize) -> Option<Record> {
     }
     let (qubits, floats) = match kind {
         _ if mark != GATE_MARK => return None,
-        GIVEN1 => (1, 8),
-        GIVEN2 => (2, 32),
+        GIVEN1 => (1, given_floats(1)),
+        GIVEN2 => (2, given_floats(2)),
         code => (gates::coded(code)?.qubits, 0),
     };
     let body = rest.get(3..3 + qubits + 8 * floats)?;

@@ -20,6 +20,19 @@ static void check(int ok, const char *what, int line) {
 
 #define CHECK(x) check((x), #x, __LINE__)
 
+/* The header's numbers, each written out once more; everything below takes them from the header. */
+_Static_assert(JOZKERAL_MAX_QUBITS == 128 && JOZKERAL_MAX_GATES == 1024 && JOZKERAL_MAX_SHOTS == 65536 && JOZKERAL_MAX_LABEL == 40, "limits");
+_Static_assert(JOZKERAL_HEADER_BYTES == 20 && JOZKERAL_OP_PLACES == 18 && JOZKERAL_INDEX_WORDS == 2, "records, operations, indices");
+_Static_assert(JOZKERAL_WORK_PLACES(5, 3) == 512 && JOZKERAL_MARK_PLACES(5, 3) == 256 && JOZKERAL_OPS_PLACES(5, 3) == 432, "work");
+_Static_assert(JOZKERAL_STATE_PLACES(3) == 42 && JOZKERAL_QUERY_PLACES(3) == 36, "states");
+_Static_assert(JOZKERAL_REPORT_WORDS == 14 && JOZKERAL_MEASURES == 2 && JOZKERAL_TABLE_PLACES == 384 && JOZKERAL_MODES_AT == 256, "reports");
+
+/* Limits: the bytes that the covariance matrix of two qubits has, and more than that of three. */
+enum { TWO = 128, THREE = 1000 };
+
+/* Places of a mode table, and of a state and a query's work of three qubits. */
+enum { MODES = JOZKERAL_MAX_QUBITS, STATE = JOZKERAL_STATE_PLACES(3), WORK = JOZKERAL_QUERY_PLACES(3) };
+
 /* ---- slices with margins: MARGIN bytes of FILL on either side; the lent places hold FILL as well until a call writes them */
 
 enum { MARGIN = 64, FILL = 0x5a };
@@ -168,34 +181,34 @@ static void check_late(const struct tape *t, struct lent l, uint64_t number, siz
 static void test_tapes(void) {
     static struct tape t;
     double big = 2.5;
-    header(&t, 2, 0, 0.0, 128);
-    t.len = 19;
+    header(&t, 2, 0, 0.0, TWO);
+    t.len = JOZKERAL_HEADER_BYTES - 1;
     check_tape(&t, JOZKERAL_HEADER, 0, __LINE__);
     t.len = 0;
     check_tape(&t, JOZKERAL_HEADER, 0, __LINE__);
-    header(&t, 129, 0, 0.0, 128);
+    header(&t, 129, 0, 0.0, TWO);
     check_tape(&t, JOZKERAL_SIZE, 0, __LINE__);
-    header(&t, 2, 8, 0.0, 128);
+    header(&t, 2, 8, 0.0, TWO);
     check_tape(&t, JOZKERAL_SIZE, 0, __LINE__);
-    header(&t, 2, 0, 0.002, 128);
+    header(&t, 2, 0, 0.002, TWO);
     check_tape(&t, JOZKERAL_TOLERANCE, 0, __LINE__);
-    header(&t, 1, 0, 0.0, 128);
+    header(&t, 1, 0, 0.0, TWO);
     for (int i = 0; i < 1025; i++) gate1(&t, 0x00, 0);
     check_tape(&t, JOZKERAL_GATES, 20 + 4 * 1024, __LINE__);
-    header(&t, 2, 0, 0.0, 128);
+    header(&t, 2, 0, 0.0, TWO);
     gate1(&t, 0x02, 0);
     gate1(&t, 0x33, 0);
     check_tape(&t, JOZKERAL_RECORD, 24, __LINE__);
-    header(&t, 2, 0, 0.0, 128);
+    header(&t, 2, 0, 0.0, TWO);
     label(&t, "a \x1f");
     check_tape(&t, JOZKERAL_RECORD, 20, __LINE__);
-    header(&t, 2, 0, 0.0, 128);
+    header(&t, 2, 0, 0.0, TWO);
     gate1(&t, 0x02, 2);
     check_tape(&t, JOZKERAL_QUBIT, 20, __LINE__);
-    header(&t, 2, 0, 0.0, 128);
+    header(&t, 2, 0, 0.0, TWO);
     gate2(&t, 0x13, 1, 1);
     check_tape(&t, JOZKERAL_REPEATED, 20, __LINE__);
-    header(&t, 2, 0, 0.0, 128);
+    header(&t, 2, 0, 0.0, TWO);
     gate1(&t, 0x0f, 1);
     for (int i = 0; i < 8; i++) put(&t, &big, 8);
     check_tape(&t, JOZKERAL_ENTRY, 20, __LINE__);
@@ -204,7 +217,7 @@ static void test_tapes(void) {
 static void test_late(void) {
     static struct tape t;
     struct lent l;
-    header(&t, 2, 0, 0.0, 128);
+    header(&t, 2, 0, 0.0, TWO);
     gate2(&t, 0x13, 0, 1);
     l = lend_all(1, 2);
     l.work.len = JOZKERAL_WORK_PLACES(1, 2) - 1;
@@ -213,21 +226,21 @@ static void test_late(void) {
     l.marks.len = JOZKERAL_MARK_PLACES(1, 2) - 1;
     check_late(&t, l, JOZKERAL_WORK, 1, 2, __LINE__);
     l = lend_all(1, 2);
-    l.ops.len = 17;
+    l.ops.len = JOZKERAL_OP_PLACES - 1;
     check_late(&t, l, JOZKERAL_OPERATIONS, 1, 2, __LINE__);
     l = lend_all(1, 2);
     l.state.len = JOZKERAL_STATE_PLACES(2) - 1;
     check_late(&t, l, JOZKERAL_STATE, 1, 2, __LINE__);
-    header(&t, 2, 0, 0.0, 127);
+    header(&t, 2, 0, 0.0, TWO - 1);
     gate2(&t, 0x13, 0, 1);
     check_late(&t, lend_all(1, 2), JOZKERAL_LIMIT, 1, 2, __LINE__);
-    header(&t, 3, 0, 0.0, 1000);
+    header(&t, 3, 0, 0.0, THREE);
     gate2(&t, 0x13, 0, 2);
     check_late(&t, lend_all(1, 3), JOZKERAL_APART, 1, 3, __LINE__);
-    header(&t, 2, 0, 0.0, 128);
+    header(&t, 2, 0, 0.0, TWO);
     gate1(&t, 0x01, 0);
     check_late(&t, lend_all(1, 2), JOZKERAL_BAD, 1, 2, __LINE__);
-    header(&t, 2, 0, 0.0, 128);
+    header(&t, 2, 0, 0.0, TWO);
     gate2(&t, 0x11, 0, 1);
     check_late(&t, lend_all(1, 2), JOZKERAL_INTERACTION, 1, 2, __LINE__);
 }
@@ -235,7 +248,7 @@ static void test_late(void) {
 /* a slice for the answer that is too short: nothing is read or written */
 static void test_no_room(void) {
     static struct tape t;
-    header(&t, 2, 0, 0.0, 128);
+    header(&t, 2, 0, 0.0, TWO);
     for (int k = 0; k < 8; k++) {
         struct lent l = lend_all(0, 2);
         struct slice *s = k % 4 == 0 ? &l.place : k % 4 == 1 ? &l.report : k % 4 == 2 ? &l.measures : &l.tables;
@@ -253,7 +266,7 @@ static void test_labels(void) {
     static struct tape t;
     struct slice f = lend(8, 3);
     uint64_t *found = at(&f);
-    header(&t, 2, 0, 0.0, 128);
+    header(&t, 2, 0, 0.0, TWO);
     label(&t, "first");
     gate1(&t, 0x02, 0);
     label(&t, "");
@@ -276,23 +289,24 @@ static void test_report(void) {
     struct lent l = lend_all(2, 3);
     const uint64_t *report = at(&l.report);
     const double *measures = at(&l.measures), *ops = at(&l.ops);
-    const uint16_t *tables = at(&l.tables);
-    static const uint64_t words[14] = {3, 2, 1, 2, 0, 0, 0, 0, 2, 0, 1, 1, 0, 1};
-    header(&t, 3, 3, 0.0, 1000);
+    const uint16_t *order = at(&l.tables), *starts = order + JOZKERAL_MAX_QUBITS, *modes = order + JOZKERAL_MODES_AT;
+    const size_t unused = sizeof *order * (JOZKERAL_MAX_QUBITS - 3);
+    static const uint64_t words[JOZKERAL_REPORT_WORDS] = {3, 2, 1, 2, 0, 0, 0, 0, 2, 0, 1, 1, 0, 1};
+    header(&t, 3, 3, 0.0, THREE);
     gate1(&t, 0x02, 1);
     gate2(&t, 0x13, 0, 2);
     CHECK(run(&t, &l) == 0);
     CHECK(((uint64_t *)at(&l.place))[0] == 0 && untouched_from(&l.place, 1));
-    for (int i = 0; i < 14; i++) CHECK(report[i] == words[i]);
-    CHECK(untouched_from(&l.report, 14));
-    CHECK(measures[0] == 1.0 && measures[1] == 0.0 && untouched_from(&l.measures, 2));
-    CHECK(tables[0] == 0 && tables[1] == 2 && tables[2] == 1);
-    CHECK(tables[128] == 1 && tables[129] == 0 && tables[130] == 1);
-    CHECK(tables[256] == 0 && tables[257] == 2 && tables[258] == 1);
-    CHECK(untouched_from(&l.tables, 384));
-    CHECK(filled((const unsigned char *)(tables + 3), 2 * 125, 0) && filled((const unsigned char *)(tables + 259), 2 * 125, 0));
-    CHECK((ops[0] == 1.0 && ops[18] == 2.0) || (ops[0] == 2.0 && ops[18] == 1.0));
-    CHECK(untouched_from(&l.ops, 36) && untouched_from(&l.state, JOZKERAL_STATE_PLACES(3)));
+    for (int i = 0; i < JOZKERAL_REPORT_WORDS; i++) CHECK(report[i] == words[i]);
+    CHECK(untouched_from(&l.report, JOZKERAL_REPORT_WORDS));
+    CHECK(measures[0] == 1.0 && measures[1] == 0.0 && untouched_from(&l.measures, JOZKERAL_MEASURES));
+    CHECK(order[0] == 0 && order[1] == 2 && order[2] == 1);
+    CHECK(starts[0] == 1 && starts[1] == 0 && starts[2] == 1);
+    CHECK(modes[0] == 0 && modes[1] == 2 && modes[2] == 1);
+    CHECK(untouched_from(&l.tables, JOZKERAL_TABLE_PLACES));
+    CHECK(filled((const unsigned char *)(order + 3), unused, 0) && filled((const unsigned char *)(modes + 3), unused, 0));
+    CHECK((ops[0] == 1.0 && ops[JOZKERAL_OP_PLACES] == 2.0) || (ops[0] == 2.0 && ops[JOZKERAL_OP_PLACES] == 1.0));
+    CHECK(untouched_from(&l.ops, 2 * JOZKERAL_OP_PLACES) && untouched_from(&l.state, STATE));
     CHECK(cleared(&l.work, JOZKERAL_WORK_PLACES(2, 3)) && cleared(&l.marks, JOZKERAL_MARK_PLACES(2, 3)));
     give_back(&l);
 }
@@ -305,7 +319,8 @@ static void test_compile(void) {
     const double *ops = at(&l.ops);
     header(&t, 2, 0, 0.0, 0);
     gate1(&t, 0x01, 0);
-    CHECK(compile(&t, &l) == 0 && report[1] == 1 && report[4] == 1 && report[8] == 0 && report[11] == 0);
+    CHECK(compile(&t, &l) == 0 && report[JOZKERAL_WORD_BLOCKS] == 1 && report[JOZKERAL_WORD_BAD] == 1 &&
+          report[JOZKERAL_WORD_OPERATIONS] == 0 && report[JOZKERAL_WORD_FREE] == 0);
     CHECK(untouched(&l.ops) && untouched(&l.state));
     give_back(&l);
     l = lend_all(1, 2);
@@ -313,8 +328,9 @@ static void test_compile(void) {
     ops = at(&l.ops);
     header(&t, 2, 0, 0.0, 0);
     gate2(&t, 0x11, 0, 1);
-    CHECK(compile(&t, &l) == 0 && report[6] == 1 && report[10] == 0 && report[11] == 1);
-    CHECK(ops[18 * (report[8] - 1)] == 3.0 && untouched_from(&l.ops, 18 * report[8]));
+    CHECK(compile(&t, &l) == 0 && report[JOZKERAL_WORD_INTERACTIONS] == 1 && report[JOZKERAL_WORD_EXACT] == 0 && report[JOZKERAL_WORD_FREE] == 1);
+    const size_t used = JOZKERAL_OP_PLACES * report[JOZKERAL_WORD_OPERATIONS];
+    CHECK(ops[used - JOZKERAL_OP_PLACES] == 3.0 && untouched_from(&l.ops, used));
     give_back(&l);
 }
 
@@ -323,7 +339,7 @@ static void test_compile(void) {
 static struct lent state_of_bits(void) {
     static struct tape t;
     struct lent l = lend_all(3, 3);
-    header(&t, 3, 1, 0.0, 1000);
+    header(&t, 3, 1, 0.0, THREE);
     gate1(&t, 0x02, 0);
     gate1(&t, 0x02, 2);
     gate2(&t, 0x13, 0, 1);
@@ -334,47 +350,47 @@ static struct lent state_of_bits(void) {
 static void test_queries(void) {
     struct lent l = state_of_bits();
     const double *s = at(&l.state);
-    const uint16_t *m = (const uint16_t *)at(&l.tables) + 256;
+    const uint16_t *m = (const uint16_t *)at(&l.tables) + JOZKERAL_MODES_AT;
     const size_t ns = l.state.len, qs[4] = {0, 1, 2, 1}, bad[3] = {0, 9, 1};
     const uint8_t bits[4] = {0, 1, 1, 1}, wrong[4] = {0, 1, 0, 1}, twos[3] = {0, 2, 1}, contrary[4] = {0, 1, 1, 0};
-    struct slice w = lend(8, JOZKERAL_QUERY_PLACES(3) + 3), p = lend(8, 2), a = lend(8, 2);
+    struct slice w = lend(8, WORK + 3), p = lend(8, 2), a = lend(8, 2);
     uint64_t *place = at(&p);
     double *answer = at(&a), *work = at(&w);
     const double z[3] = {1.0, -1.0, -1.0};
-    for (size_t q = 0; q < 3; q++) CHECK(jozkeral_expectation_z(3, s, ns, m, 128, q, place, 2, answer, 2) == 0 && answer[0] == z[q] && place[0] == 0);
-    CHECK(jozkeral_z_correlation(3, s, ns, m, 128, 1, 2, work, w.len, place, 2, answer, 2) == 0 && answer[0] == 1.0);
-    CHECK(cleared(&w, 16));
-    CHECK(jozkeral_expectation_z_product(3, s, ns, m, 128, qs, 4, work, w.len, place, 2, answer, 2) == 0 && answer[0] == -1.0);
-    CHECK(jozkeral_expectation_z_product(3, s, ns, m, 128, NULL, 0, NULL, 0, place, 2, answer, 2) == 0 && answer[0] == 1.0);
-    CHECK(jozkeral_marginal_probability(3, s, ns, m, 128, qs, 4, bits, 4, work, w.len, place, 2, answer, 2) == 0 && answer[0] == 1.0);
-    CHECK(jozkeral_marginal_probability(3, s, ns, m, 128, qs, 4, wrong, 4, work, w.len, place, 2, answer, 2) == 0 && answer[0] == 0.0);
-    CHECK(jozkeral_marginal_probability(3, s, ns, m, 128, qs, 4, contrary, 4, NULL, 0, place, 2, answer, 2) == 0 && answer[0] == 0.0);
-    CHECK(jozkeral_probability(3, s, ns, m, 128, 6, 0, work, w.len, answer, 2) == 0 && answer[0] == 1.0);
-    CHECK(jozkeral_probability(3, s, ns, m, 128, 7, 0, work, w.len, answer, 2) == 0 && answer[0] == 0.0);
-    CHECK(cleared(&w, 36) && untouched_from(&p, 1) && untouched_from(&a, 1));
+    for (size_t q = 0; q < 3; q++) CHECK(jozkeral_expectation_z(3, s, ns, m, MODES, q, place, 2, answer, 2) == 0 && answer[0] == z[q] && place[0] == 0);
+    CHECK(jozkeral_z_correlation(3, s, ns, m, MODES, 1, 2, work, w.len, place, 2, answer, 2) == 0 && answer[0] == 1.0);
+    CHECK(cleared(&w, JOZKERAL_QUERY_PLACES(2)));
+    CHECK(jozkeral_expectation_z_product(3, s, ns, m, MODES, qs, 4, work, w.len, place, 2, answer, 2) == 0 && answer[0] == -1.0);
+    CHECK(jozkeral_expectation_z_product(3, s, ns, m, MODES, NULL, 0, NULL, 0, place, 2, answer, 2) == 0 && answer[0] == 1.0);
+    CHECK(jozkeral_marginal_probability(3, s, ns, m, MODES, qs, 4, bits, 4, work, w.len, place, 2, answer, 2) == 0 && answer[0] == 1.0);
+    CHECK(jozkeral_marginal_probability(3, s, ns, m, MODES, qs, 4, wrong, 4, work, w.len, place, 2, answer, 2) == 0 && answer[0] == 0.0);
+    CHECK(jozkeral_marginal_probability(3, s, ns, m, MODES, qs, 4, contrary, 4, NULL, 0, place, 2, answer, 2) == 0 && answer[0] == 0.0);
+    CHECK(jozkeral_probability(3, s, ns, m, MODES, 6, 0, work, w.len, answer, 2) == 0 && answer[0] == 1.0);
+    CHECK(jozkeral_probability(3, s, ns, m, MODES, 7, 0, work, w.len, answer, 2) == 0 && answer[0] == 0.0);
+    CHECK(cleared(&w, WORK) && untouched_from(&p, 1) && untouched_from(&a, 1));
     /* refusals */
-    CHECK(jozkeral_expectation_z(129, s, ns, m, 128, 0, place, 2, answer, 2) == JOZKERAL_BAD_STATE && answer[0] == 0.0 && place[0] == 0);
-    CHECK(jozkeral_expectation_z(3, s, 41, m, 128, 0, place, 2, answer, 2) == JOZKERAL_BAD_STATE);
+    CHECK(jozkeral_expectation_z(129, s, ns, m, MODES, 0, place, 2, answer, 2) == JOZKERAL_BAD_STATE && answer[0] == 0.0 && place[0] == 0);
+    CHECK(jozkeral_expectation_z(3, s, STATE - 1, m, MODES, 0, place, 2, answer, 2) == JOZKERAL_BAD_STATE);
     CHECK(jozkeral_expectation_z(3, s, ns, m, 2, 0, place, 2, answer, 2) == JOZKERAL_BAD_STATE);
     answer[0] = 5.0;
-    CHECK(jozkeral_expectation_z(3, s, ns, m, 128, 3, place, 2, answer, 2) == JOZKERAL_LISTED && answer[0] == 0.0 && place[0] == 0);
-    CHECK(jozkeral_z_correlation(3, s, ns, m, 128, 1, 3, work, w.len, place, 2, answer, 2) == JOZKERAL_LISTED && place[0] == 1);
-    CHECK(jozkeral_expectation_z_product(3, s, ns, m, 128, bad, 3, work, w.len, place, 2, answer, 2) == JOZKERAL_LISTED && place[0] == 1);
-    CHECK(jozkeral_expectation_z_product(3, s, ns, m, 128, qs, 3, work, 35, place, 2, answer, 2) == JOZKERAL_QUERY_WORK && place[0] == 0);
-    CHECK(jozkeral_marginal_probability(3, s, ns, m, 128, qs, 3, bits, 2, work, w.len, place, 2, answer, 2) == JOZKERAL_BITS);
-    CHECK(jozkeral_marginal_probability(3, s, ns, m, 128, qs, 3, twos, 3, work, w.len, place, 2, answer, 2) == JOZKERAL_BITS);
-    CHECK(jozkeral_marginal_probability(3, s, ns, m, 128, bad, 3, bits, 3, work, w.len, place, 2, answer, 2) == JOZKERAL_LISTED && place[0] == 1);
-    CHECK(jozkeral_probability(3, s, ns, m, 128, 6, 0, work, 35, answer, 2) == JOZKERAL_QUERY_WORK && answer[0] == 0.0);
+    CHECK(jozkeral_expectation_z(3, s, ns, m, MODES, 3, place, 2, answer, 2) == JOZKERAL_LISTED && answer[0] == 0.0 && place[0] == 0);
+    CHECK(jozkeral_z_correlation(3, s, ns, m, MODES, 1, 3, work, w.len, place, 2, answer, 2) == JOZKERAL_LISTED && place[0] == 1);
+    CHECK(jozkeral_expectation_z_product(3, s, ns, m, MODES, bad, 3, work, w.len, place, 2, answer, 2) == JOZKERAL_LISTED && place[0] == 1);
+    CHECK(jozkeral_expectation_z_product(3, s, ns, m, MODES, qs, 3, work, WORK - 1, place, 2, answer, 2) == JOZKERAL_QUERY_WORK && place[0] == 0);
+    CHECK(jozkeral_marginal_probability(3, s, ns, m, MODES, qs, 3, bits, 2, work, w.len, place, 2, answer, 2) == JOZKERAL_BITS);
+    CHECK(jozkeral_marginal_probability(3, s, ns, m, MODES, qs, 3, twos, 3, work, w.len, place, 2, answer, 2) == JOZKERAL_BITS);
+    CHECK(jozkeral_marginal_probability(3, s, ns, m, MODES, bad, 3, bits, 3, work, w.len, place, 2, answer, 2) == JOZKERAL_LISTED && place[0] == 1);
+    CHECK(jozkeral_probability(3, s, ns, m, MODES, 6, 0, work, WORK - 1, answer, 2) == JOZKERAL_QUERY_WORK && answer[0] == 0.0);
     /* no room */
     place[0] = 3;
     answer[0] = 4.0;
     work[0] = 1.0;
-    CHECK(jozkeral_expectation_z(3, s, ns, m, 128, 0, place, 0, answer, 2) == JOZKERAL_NO_ROOM);
-    CHECK(jozkeral_expectation_z(3, s, ns, m, 128, 0, place, 2, answer, 0) == JOZKERAL_NO_ROOM);
-    CHECK(jozkeral_z_correlation(3, s, ns, m, 128, 1, 2, work, w.len, NULL, 0, answer, 2) == JOZKERAL_NO_ROOM);
-    CHECK(jozkeral_expectation_z_product(3, s, ns, m, 128, qs, 4, work, w.len, place, 2, NULL, 0) == JOZKERAL_NO_ROOM);
-    CHECK(jozkeral_marginal_probability(3, s, ns, m, 128, qs, 4, bits, 4, work, w.len, place, 0, answer, 2) == JOZKERAL_NO_ROOM);
-    CHECK(jozkeral_probability(3, s, ns, m, 128, 6, 0, work, w.len, answer, 0) == JOZKERAL_NO_ROOM);
+    CHECK(jozkeral_expectation_z(3, s, ns, m, MODES, 0, place, 0, answer, 2) == JOZKERAL_NO_ROOM);
+    CHECK(jozkeral_expectation_z(3, s, ns, m, MODES, 0, place, 2, answer, 0) == JOZKERAL_NO_ROOM);
+    CHECK(jozkeral_z_correlation(3, s, ns, m, MODES, 1, 2, work, w.len, NULL, 0, answer, 2) == JOZKERAL_NO_ROOM);
+    CHECK(jozkeral_expectation_z_product(3, s, ns, m, MODES, qs, 4, work, w.len, place, 2, NULL, 0) == JOZKERAL_NO_ROOM);
+    CHECK(jozkeral_marginal_probability(3, s, ns, m, MODES, qs, 4, bits, 4, work, w.len, place, 0, answer, 2) == JOZKERAL_NO_ROOM);
+    CHECK(jozkeral_probability(3, s, ns, m, MODES, 6, 0, work, w.len, answer, 0) == JOZKERAL_NO_ROOM);
     CHECK(place[0] == 3 && answer[0] == 4.0 && work[0] == 1.0 && margins(&w) && margins(&p) && margins(&a));
     CHECK(margins(&l.state) && margins(&l.tables));
     free(w.room);
@@ -386,22 +402,22 @@ static void test_queries(void) {
 static void test_samples(void) {
     struct lent l = state_of_bits();
     const double *s = at(&l.state);
-    const uint16_t *m = (const uint16_t *)at(&l.tables) + 256;
+    const uint16_t *m = (const uint16_t *)at(&l.tables) + JOZKERAL_MODES_AT;
     const size_t ns = l.state.len;
     double draws[6] = {0.0, 0.25, 0.5, 0.75, 0.999, 0.1};
-    struct slice w = lend(8, JOZKERAL_QUERY_PLACES(3) + 3), o = lend(8, 5), p = lend(8, 2);
+    struct slice w = lend(8, WORK + 3), o = lend(8, 5), p = lend(8, 2);
     uint64_t *place = at(&p), *out = at(&o);
-    CHECK(jozkeral_sample(3, s, ns, m, 128, 65537, draws, 6, at(&w), w.len, out, 5, place, 2) == JOZKERAL_SHOTS && cleared(&w, 36));
-    CHECK(jozkeral_sample(3, s, ns, m, 128, 2, draws, 5, at(&w), w.len, out, 5, place, 2) == JOZKERAL_SHOTS);
-    CHECK(jozkeral_sample(3, s, ns, m, 128, 2, draws, 6, at(&w), w.len, out, 3, place, 2) == JOZKERAL_SHOTS);
-    CHECK(jozkeral_sample(3, s, ns, m, 128, 2, draws, 6, at(&w), 35, out, 5, place, 2) == JOZKERAL_QUERY_WORK && place[0] == 0);
-    CHECK(jozkeral_sample(3, s, ns, m, 128, 2, draws, 6, at(&w), w.len, out, 5, NULL, 0) == JOZKERAL_NO_ROOM);
+    CHECK(jozkeral_sample(3, s, ns, m, MODES, JOZKERAL_MAX_SHOTS + 1, draws, 6, at(&w), w.len, out, 5, place, 2) == JOZKERAL_SHOTS && cleared(&w, WORK));
+    CHECK(jozkeral_sample(3, s, ns, m, MODES, 2, draws, 5, at(&w), w.len, out, 5, place, 2) == JOZKERAL_SHOTS);
+    CHECK(jozkeral_sample(3, s, ns, m, MODES, 2, draws, 6, at(&w), w.len, out, 3, place, 2) == JOZKERAL_SHOTS);
+    CHECK(jozkeral_sample(3, s, ns, m, MODES, 2, draws, 6, at(&w), WORK - 1, out, 5, place, 2) == JOZKERAL_QUERY_WORK && place[0] == 0);
+    CHECK(jozkeral_sample(3, s, ns, m, MODES, 2, draws, 6, at(&w), w.len, out, 5, NULL, 0) == JOZKERAL_NO_ROOM);
     draws[4] = 1.0;
-    CHECK(jozkeral_sample(3, s, ns, m, 128, 2, draws, 6, at(&w), w.len, out, 5, place, 2) == JOZKERAL_DRAW && place[0] == 4);
+    CHECK(jozkeral_sample(3, s, ns, m, MODES, 2, draws, 6, at(&w), w.len, out, 5, place, 2) == JOZKERAL_DRAW && place[0] == 4);
     CHECK(untouched(&o));
-    CHECK(jozkeral_sample(3, s, ns, m, 128, 1, draws, 6, at(&w), w.len, out, 5, place, 2) == 0 && place[0] == 0 && untouched_from(&o, 2));
+    CHECK(jozkeral_sample(3, s, ns, m, MODES, 1, draws, 6, at(&w), w.len, out, 5, place, 2) == 0 && place[0] == 0 && untouched_from(&o, 2));
     draws[4] = 0.5;
-    CHECK(jozkeral_sample(3, s, ns, m, 128, 2, draws, 6, at(&w), w.len, out, 5, place, 2) == 0);
+    CHECK(jozkeral_sample(3, s, ns, m, MODES, 2, draws, 6, at(&w), w.len, out, 5, place, 2) == 0);
     CHECK(out[0] == 6 && out[1] == 0 && out[2] == 6 && out[3] == 0 && untouched_from(&o, 4) && untouched_from(&p, 1));
     free(w.room);
     free(o.room);
@@ -411,23 +427,23 @@ static void test_samples(void) {
 
 static void test_apply(void) {
     struct lent l = state_of_bits();
-    double *s = at(&l.state), op[18] = {1.0, 1.0, 1.0, 0.0, 0.0, -1.0}, z[1];
-    const uint16_t *m = (const uint16_t *)at(&l.tables) + 256;
+    double *s = at(&l.state), op[JOZKERAL_OP_PLACES] = {1.0, 1.0, 1.0, 0.0, 0.0, -1.0}, z[1];
+    const uint16_t *m = (const uint16_t *)at(&l.tables) + JOZKERAL_MODES_AT;
     uint64_t place[1];
-    CHECK(jozkeral_apply(3, s, l.state.len, m, 128, op, 17) == JOZKERAL_OPERATION);
+    CHECK(jozkeral_apply(3, s, l.state.len, m, MODES, op, JOZKERAL_OP_PLACES - 1) == JOZKERAL_OPERATION);
     op[1] = 3.0;
-    CHECK(jozkeral_apply(3, s, l.state.len, m, 128, op, 18) == JOZKERAL_OPERATION);
+    CHECK(jozkeral_apply(3, s, l.state.len, m, MODES, op, JOZKERAL_OP_PLACES) == JOZKERAL_OPERATION);
     op[0] = 4.0;
-    CHECK(jozkeral_apply(3, s, l.state.len, m, 128, op, 18) == JOZKERAL_OPERATION);
-    CHECK(jozkeral_apply(3, s, 41, m, 128, op, 18) == JOZKERAL_BAD_STATE);
+    CHECK(jozkeral_apply(3, s, l.state.len, m, MODES, op, JOZKERAL_OP_PLACES) == JOZKERAL_OPERATION);
+    CHECK(jozkeral_apply(3, s, STATE - 1, m, MODES, op, JOZKERAL_OP_PLACES) == JOZKERAL_BAD_STATE);
     op[0] = 3.0;
-    CHECK(jozkeral_apply(3, s, l.state.len, m, 128, op, 18) == 0);
+    CHECK(jozkeral_apply(3, s, l.state.len, m, MODES, op, JOZKERAL_OP_PLACES) == 0);
     op[0] = 1.0;
     op[1] = m[0]; /* a map of determinant -1 on the mode of qubit 0 turns its Z, and no other */
-    CHECK(jozkeral_apply(3, s, l.state.len, m, 128, op, 18) == 0);
-    CHECK(jozkeral_expectation_z(3, s, l.state.len, m, 128, 0, place, 1, z, 1) == 0 && z[0] == -1.0);
-    CHECK(jozkeral_expectation_z(3, s, l.state.len, m, 128, 1, place, 1, z, 1) == 0 && z[0] == -1.0);
-    CHECK(untouched_from(&l.state, JOZKERAL_STATE_PLACES(3)));
+    CHECK(jozkeral_apply(3, s, l.state.len, m, MODES, op, JOZKERAL_OP_PLACES) == 0);
+    CHECK(jozkeral_expectation_z(3, s, l.state.len, m, MODES, 0, place, 1, z, 1) == 0 && z[0] == -1.0);
+    CHECK(jozkeral_expectation_z(3, s, l.state.len, m, MODES, 1, place, 1, z, 1) == 0 && z[0] == -1.0);
+    CHECK(untouched_from(&l.state, STATE));
     give_back(&l);
 }
 

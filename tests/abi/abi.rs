@@ -8,8 +8,12 @@
 
 #[path = "../../host/src/library.rs"]
 mod jozkeral;
+#[allow(dead_code)] // not every number is needed here
+#[path = "../../host/src/layout.rs"]
+mod layout;
 
-use jozkeral::{Refusal, State, Work};
+use jozkeral::{Refusal, Report, State, Work};
+use layout::*;
 
 struct Rng(u64);
 
@@ -93,12 +97,15 @@ fn tape(r: &mut Rng, any: bool) -> Tape {
     t
 }
 
-fn state_places(n: usize) -> usize {
-    4 * n * n + 2 * n
-}
-
 fn same(a: &[f64], b: &[f64]) -> bool {
     a.len() == b.len() && a.iter().zip(b).all(|(x, y)| x.to_bits() == y.to_bits())
+}
+
+/// Whether every number of a report is zero, as in a refusal.
+fn is_zero(report: &Report) -> bool {
+    report.words == [0; REPORT_WORDS]
+        && report.measures == [0.0; MEASURES]
+        && report.tables == [0; TABLE_PLACES]
 }
 
 /// Work that is not zero before the call.
@@ -124,27 +131,29 @@ fn vacuum(n: usize) -> Vec<f64> {
 
 /// Both calls on a tape; the state and the mode table if it runs.
 fn both(t: &Tape) -> Option<(Vec<f64>, Vec<u16>)> {
-    let places = 54 * (t.gates + t.n);
+    let places = ops_places(t.gates, t.n);
     let (mut w, mut ops, mut ops2) = (full(t.gates, t.n), vec![7.0; places], vec![7.0; places]);
     let mut state = vec![7.0; state_places(t.n) + 3];
     let (c, compiled) = jozkeral::compile(&t.bytes, &mut w, &mut ops);
     assert_eq!(compiled, Ok(()), "a tape of good records compiles");
     assert!(w.floats.iter().all(|x| x.to_bits() == 0) && w.marks.iter().all(|x| *x == 0));
-    assert_eq!(c.words[1], c.words[3] + c.words[4] + c.words[6]);
+    let [blocks, gaussian, bad, interactions] =
+        [word::BLOCKS, word::GAUSSIAN, word::BAD, word::INTERACTIONS].map(|k| c.words[k]);
+    assert_eq!(blocks, gaussian + bad + interactions);
     let (r, ran) = jozkeral::run(&t.bytes, &mut w, &mut ops2, &mut state);
     if let Err(no) = ran {
         assert!((11..=13).contains(&no.number) && no.place == 0);
-        assert!(r.words == [0; 14] && r.measures == [0.0; 2] && r.tables == [0; 384]);
+        assert!(is_zero(&r));
         assert!(ops2.iter().chain(&state).all(|x| *x == 7.0));
         return None;
     }
     assert_eq!(c, r);
     assert!(same(&ops, &ops2));
-    let used = 18 * r.words[8] as usize;
+    let used = OP_PLACES * r.operations();
     assert!(ops[used..].iter().all(|x| *x == 7.0));
     assert!(state.split_off(state_places(t.n)).iter().all(|x| *x == 7.0));
     let mut again = vacuum(t.n);
-    for op in ops[..used].chunks(18) {
+    for op in ops[..used].chunks(OP_PLACES) {
         jozkeral::apply(t.n, &mut again, r.modes(), op).expect("an operation of a run applies");
     }
     assert!(same(&again, &state));
@@ -153,7 +162,7 @@ fn both(t: &Tape) -> Option<(Vec<f64>, Vec<u16>)> {
 
 /// Queries that are two ways to ask one thing.
 fn agree(r: &mut Rng, s: State) {
-    let mut work = vec![3.0; 4 * s.n * s.n];
+    let mut work = vec![3.0; query_places(s.n)];
     let index = r.next();
     let all: Vec<usize> = (0..s.n).collect();
     let bits: Vec<u8> = all.iter().map(|q| (index >> q & 1) as u8).collect();
@@ -173,7 +182,7 @@ fn agree(r: &mut Rng, s: State) {
 
 /// The bit register's answers.
 fn register(r: &mut Rng, s: State, bits: &[bool]) {
-    let mut work = vec![3.0; 4 * s.n * s.n];
+    let mut work = vec![3.0; query_places(s.n)];
     let sign = |b: bool| if b { -1.0 } else { 1.0 };
     for (q, b) in bits.iter().enumerate() {
         assert_eq!(s.expectation_z(q), Ok(sign(*b)));
@@ -213,23 +222,23 @@ fn damage(r: &mut Rng, bytes: &mut Vec<u8>) {
 /// What both calls say of any bytes; the number of the run.
 fn damaged(bytes: &[u8], work: &mut Work) -> usize {
     fill(work);
-    let mut ops = [7.0; 18 * 8];
-    let mut state = [7.0; 4 * 12 * 12];
+    let mut ops = [7.0; OP_PLACES * 8];
+    let mut state = [7.0; state_places(11)];
     let (report, answer) = jozkeral::compile(bytes, work, &mut ops);
     let label = jozkeral::label(bytes, 0);
-    assert!(label.map_or(true, |x| x.iter().all(|b| (0x20..0x7f).contains(b)) && x.len() <= 40));
+    assert!(
+        label.map_or(true, |x| x.iter().all(|b| (0x20..0x7f).contains(b)) && x.len() <= MAX_LABEL)
+    );
     let touched = work.floats.iter().any(|x| *x != 1.0) || work.marks.iter().any(|x| *x != 1);
     if let Err(no) = answer {
         assert!((1..=10).contains(&no.number));
         let record = (4..=8).contains(&no.number);
         assert!(if record {
-            no.place >= 20 && (no.place as usize) < bytes.len()
+            (HEADER_BYTES..bytes.len()).contains(&(no.place as usize))
         } else {
             no.place == 0
         });
-        assert!(
-            report.words == [0; 14] && report.measures == [0.0; 2] && report.tables == [0; 384]
-        );
+        assert!(is_zero(&report));
         assert!(ops.iter().all(|x| *x == 7.0));
         assert_eq!(touched, no.number == 10);
         assert!(no.number > 8 || label.is_none());
@@ -242,7 +251,7 @@ fn damaged(bytes: &[u8], work: &mut Work) -> usize {
         (Ok(()), Ok(())) => {}
     }
     assert!(ran.is_ok() || ops.iter().chain(&state).all(|x| *x == 7.0));
-    ran.map_or_else(|no| no.number as usize, |()| 0)
+    Refusal::told(&ran)[0] as usize
 }
 
 fn main() {

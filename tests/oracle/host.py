@@ -14,6 +14,11 @@ import subprocess
 import sys
 import tempfile
 
+RELABEL, REORDER, DROP = 1, 2, 4
+# hexadecimal digits of a float
+DIGITS = 16
+# largest difference between two answers to an angled list, and the least tolerance with which these are compared
+CLOSE, LEAST_TOLERANCE = 1e-9, 1e-12
 QUERIES = ("z", "zz", "prod", "marg", "prob", "sample")
 REPORT = {"blocks": "blocks", "blocks_2q": "two_qubit_blocks", "gaussian": "gaussian", "bad": "bad", "nonadjacent": "nonadjacent",
           "interactions": "interactions", "swaps": "swaps_relabelled"}
@@ -40,10 +45,10 @@ def for_people(one):
     n, flags, tolerance, limit = one[0]
     switch = lambda bit: "on" if int(flags) & bit else "off"
     out = [f"qubits {n}", f"tolerance {number(tolerance)!r}", f"limit {limit}"]
-    out += [f"relabel {switch(1)}", f"reorder {switch(2)}", f"drop {switch(4)}"]
+    out += [f"relabel {switch(RELABEL)}", f"reorder {switch(REORDER)}", f"drop {switch(DROP)}"]
     for name, *rest in one[1:]:
         if name not in QUERIES:
-            out.append(" ".join([name] + [repr(number(w)) if len(w) == 16 else w for w in rest]))
+            out.append(" ".join([name] + [repr(number(w)) if len(w) == DIGITS else w for w in rest]))
     return "\n".join(out) + "\n"
 
 
@@ -89,7 +94,7 @@ def answers(text):
 
 def same(a, b, angled):
     if angled:
-        return abs(a - b) <= 1e-9
+        return abs(a - b) <= CLOSE
     return a == b or a != a and b != b
 
 
@@ -144,7 +149,7 @@ def main(oracle, tool, file):
             if run.returncode > 1:
                 wrong = [run.stderr.strip()]
             else:
-                wrong = compare(json.loads(run.stdout), original[i], queries, sample, number(one[0][2]) < 1e-12)
+                wrong = compare(json.loads(run.stdout), original[i], queries, sample, number(one[0][2]) < LEAST_TOLERANCE)
             with open(own, "rb") as f, open(tapes if len(found) == 1 else f"{tapes}.{i}", "rb") as g:
                 wrong += [] if f.read() == g.read() else ["tape"]
             if wrong:

@@ -21,7 +21,11 @@ import random
 import struct
 
 MAX_QUBITS, MAX_FLAGS, MAX_GATES, MAX_LABEL = 128, 7, 1024, 40
-MAX_TOLERANCE = 0.001
+MAX_TOLERANCE, MAX_ENTRY = 0.001, 2
+HEADER_MARK, GATE_MARK, LABEL_MARK = b'\x51\x48', b'\x51\x47', b'\x51\x4c'
+HEADER_BYTES, FLOAT_BYTES = 20, 8
+# of a gate in a file: its offset, its code and three qubits, in words of two bytes
+GATE_BYTES = 2 * 5
 ONE = [0x00, 0x01, 0x02, 0x03, 0x04, 0x05, 0x06, 0x07, 0x08]
 TWO = [0x10, 0x11, 0x12, 0x13, 0x14]
 QUBITS = {**{c: 1 for c in ONE}, 0x0F: 1, **{c: 2 for c in TWO}, 0x1F: 2, 0x20: 3}
@@ -44,7 +48,7 @@ def read(tape):
 
 
 def header(tape):
-    if len(tape) < 20 or tape[0] != 0x51 or tape[1] != 0x48:
+    if len(tape) < HEADER_BYTES or not tape.startswith(HEADER_MARK):
         raise Refused(1, 0)
     n, flags = tape[2], tape[3]
     if n > MAX_QUBITS or flags > MAX_FLAGS:
@@ -56,17 +60,17 @@ def header(tape):
 
 
 def records(tape, n):
-    at, gates, labels = 20, [], []
+    at, gates, labels = HEADER_BYTES, [], []
     while at < len(tape):
         mark = tape[at:at + 2]
-        if mark == b'\x51\x47':
+        if mark == GATE_MARK:
             if len(gates) == MAX_GATES:
                 raise Refused(4, at)
             if at + 2 >= len(tape) or tape[at + 2] not in QUBITS:
                 raise Refused(5, at)
             code = tape[at + 2]
             k, entries = QUBITS[code], ENTRIES.get(code, 0)
-            end = at + 3 + k + 8 * entries
+            end = at + 3 + k + FLOAT_BYTES * entries
             if end > len(tape):
                 raise Refused(5, at)
             qubits = list(tape[at + 3:at + 3 + k])
@@ -75,10 +79,10 @@ def records(tape, n):
             if len(set(qubits)) < k:
                 raise Refused(7, at)
             for x in struct.unpack_from('<%dd' % entries, tape, at + 3 + k):
-                if not math.isfinite(x) or abs(x) > 2:
+                if not math.isfinite(x) or abs(x) > MAX_ENTRY:
                     raise Refused(8, at)
             gates.append((at, code, qubits))
-        elif mark == b'\x51\x4c':
+        elif mark == LABEL_MARK:
             if at + 2 >= len(tape) or tape[at + 2] > MAX_LABEL:
                 raise Refused(5, at)
             end = at + 3 + tape[at + 2]
@@ -94,15 +98,15 @@ def records(tape, n):
 # ---- tapes
 
 def head(n=3, flags=3, tolerance=0.0, limit=1 << 30):
-    return b'\x51\x48' + bytes([n, flags]) + struct.pack('<d', tolerance) + struct.pack('<Q', limit)
+    return HEADER_MARK + bytes([n, flags]) + struct.pack('<d', tolerance) + struct.pack('<Q', limit)
 
 
 def gate(code, *qubits, entries=()):
-    return b'\x51\x47' + bytes([code, *qubits]) + b''.join(struct.pack('<d', x) for x in entries)
+    return GATE_MARK + bytes([code, *qubits]) + b''.join(struct.pack('<d', x) for x in entries)
 
 
 def label(text, length=None):
-    return b'\x51\x4c' + bytes([len(text) if length is None else length]) + text
+    return LABEL_MARK + bytes([len(text) if length is None else length]) + text
 
 
 def of_bits(b):
@@ -121,7 +125,7 @@ def raw_entry(code, place, b):
 
 
 GIVEN2 = [1.0, 0.0, 0.0, -0.0, 2.0, -2.0, 0.5, 0.25]
-GIVEN4 = [0.0625 * i - 1.0 for i in range(32)]
+GIVEN4 = [0.0625 * i - 1.0 for i in range(ENTRIES[0x1F])]
 # a record of each kind
 KINDS = (head() + gate(0x00, 0) + label(b'first') + gate(0x10, 0, 2) + gate(0x0F, 1, entries=GIVEN2) + label(b'') + gate(0x20, 2, 0, 1)
          + gate(0x1F, 2, 1, entries=GIVEN4) + label(b'the last one') + gate(0x13, 1, 0))
@@ -176,7 +180,7 @@ def edges():
     for code in TWO + [0x1F]:
         yield h + gate(code, 1, 1, entries=[9.0] * ENTRIES.get(code, 0))
         yield h + gate(code, 1, 3, entries=[9.0] * ENTRIES.get(code, 0))
-    yield h + gate(0x0F, 3, entries=[9.0] * 8)
+    yield h + gate(0x0F, 3, entries=[9.0] * ENTRIES[0x0F])
     # 8
     for b in [TWO_BITS, TWO_BITS | 1 << 63, TWO_BITS + 1, TWO_BITS + 1 | 1 << 63, 0x7FF0000000000000, 0xFFF0000000000000, 1, 1 << 63,
               0x7FEFFFFFFFFFFFFF] + NANS:
@@ -194,7 +198,7 @@ def edges():
 def many():
     """4, and that it comes before 5 to 8"""
     h = head()
-    full = h + gate(0x02, 0) * 1024
+    full = h + gate(0x02, 0) * MAX_GATES
     for rest in (b'', gate(0x02, 0), gate(0x02, 0) * 2, b'\x51\x47', b'\x51', gate(0x09, 0), gate(0x02, 9), gate(0x10, 1, 1),
                  label(b'x'), label(b'x') + gate(0x02, 0), label(b'\x1f'), h):
         yield full + rest
@@ -241,7 +245,7 @@ class File:
 
     def walk(self, t):
         _, gates, _ = read(t)
-        self.words(3, len(t), 10 * len(gates))
+        self.words(3, len(t), GATE_BYTES * len(gates))
         for at, code, qubits in gates:
             self.words(at, code, *(qubits + [0, 0])[:3])
         self.walks += 1

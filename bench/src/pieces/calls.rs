@@ -2,6 +2,7 @@
 
 use super::{Each, Piece};
 use crate::jozkeral::State;
+use crate::layout::{query_places, INDEX_WORDS, MAX_QUBITS};
 use crate::slice::{places, Slice};
 use oracle::compiled::answer::Places;
 use oracle::families::pieces;
@@ -14,7 +15,7 @@ use rand::Draws;
 use std::hint::black_box;
 
 /// Sizes that are timed.
-pub const SIZES: [usize; 2] = [60, 128];
+pub const SIZES: [usize; 2] = [60, MAX_QUBITS];
 /// Operations of one pass.
 const OPS: usize = 64;
 /// Shots of one call.
@@ -113,7 +114,7 @@ impl Both {
 
     /// The work that a query of all qubits asks for.
     fn work(&self) -> Vec<f64> {
-        vec![0.0; 4 * self.n * self.n]
+        vec![0.0; query_places(self.n)]
     }
 
     /// Operations one after the other, on a state of each side's own.
@@ -183,7 +184,7 @@ impl Both {
     /// Shots of one call.
     pub fn shot(&self, rng: &mut Rng, name: &str, each: Each) {
         let draws: Vec<f64> = (0..SHOTS * self.n).map(|_| rng.unit()).collect();
-        let mut out = [0; 2 * SHOTS];
+        let mut out = [0; INDEX_WORDS * SHOTS];
         let mut work = self.work();
         each(Piece {
             name,

@@ -2,7 +2,7 @@
 
 use super::{Each, Piece};
 use crate::inputs::{block, matrix, Block, Kind};
-use crate::original_side::{self as rust, mat2, mat4, Flat2, Flat4};
+use crate::original_side::{self as rust, mat2, mat4, Flat2, Flat4, FLAT4};
 use crate::port::*;
 use oracle::rng::Rng;
 use original::access::detect::access as detect;
@@ -70,7 +70,7 @@ fn chain(xs: &[f64], f: impl Fn(f64) -> f64) {
 
 /// Maps and classes of the blocks.
 fn blocks(name: &str, us: &[Flat4], each: Each) {
-    let mut out = [0.0; 32];
+    let mut out = [0.0; FLAT4];
     each(Piece {
         name: &format!("majorana_map2 {name}"),
         calls: CALLS,
@@ -114,7 +114,7 @@ fn products<const N: usize, R>(
     port: Of2,
     each: Each,
 ) {
-    let mut out = [0.0; 32];
+    let mut out = [0.0; FLAT4];
     each(Piece {
         name,
         calls: CALLS,

@@ -3,10 +3,11 @@
 use super::{Each, Piece};
 use crate::circuits::{brick_wall, many_cuts, random_neighbours, random_pairs, rotations, TAILED};
 use crate::compile::same;
+use crate::layout::{MAX_QUBITS, OP_PLACES};
 use crate::lent::Lent;
 use crate::rows::Row;
 use crate::runs;
-use oracle::compiled::answer::{answer, PLACES};
+use oracle::compiled::answer::answer;
 use oracle::list::List;
 use oracle::rng::Rng;
 use oracle::tape::tape;
@@ -25,27 +26,32 @@ const CUTS: [(&str, usize, [usize; 2]); 2] = [
     ("compile 28 blocks of 36 cuts", 36, [33, 1]),
 ];
 
-type Named = (&'static str, List);
+type Named = (String, List);
 
 fn compiled(rng: &mut Rng) -> [Named; 6] {
     let [(many, _, equal), (few, _, unequal)] = CUTS;
     [
-        ("compile brick wall", brick_wall(QUBITS, GATES)),
-        ("compile random neighbours", random_neighbours(rng, QUBITS, GATES)),
-        (many, many_cuts(rng, QUBITS, equal)),
-        ("compile rotations, phases", rotations(rng, QUBITS, GATES)),
-        ("compile random pairs, n = 128", random_pairs(rng, 128, GATES)),
-        (few, many_cuts(rng, QUBITS, unequal)),
+        ("compile brick wall".into(), brick_wall(QUBITS, GATES)),
+        ("compile random neighbours".into(), random_neighbours(rng, QUBITS, GATES)),
+        (many.into(), many_cuts(rng, QUBITS, equal)),
+        ("compile rotations, phases".into(), rotations(rng, QUBITS, GATES)),
+        at("compile random pairs", MAX_QUBITS, random_pairs(rng, MAX_QUBITS, GATES)),
+        (few.into(), many_cuts(rng, QUBITS, unequal)),
     ]
 }
 
 fn run(rng: &mut Rng) -> [Named; 4] {
     [
-        ("run brick wall, n = 60", brick_wall(60, GATES)),
-        ("run brick wall, n = 128", brick_wall(128, GATES)),
-        ("run rotations, n = 60", rotations(rng, 60, GATES)),
-        ("run rotations, n = 128", rotations(rng, 128, GATES)),
+        at("run brick wall", QUBITS, brick_wall(QUBITS, GATES)),
+        at("run brick wall", MAX_QUBITS, brick_wall(MAX_QUBITS, GATES)),
+        at("run rotations", QUBITS, rotations(rng, QUBITS, GATES)),
+        at("run rotations", MAX_QUBITS, rotations(rng, MAX_QUBITS, GATES)),
     ]
+}
+
+/// A list of so many qubits.
+fn at(name: &str, n: usize, list: List) -> Named {
+    (format!("{name}, n = {n}"), list)
 }
 
 /// Whether both sides compile all of them to the same, and as many cuts are tried as their names say.
@@ -83,7 +89,7 @@ pub fn one_cut(rows: &[Row]) -> Option<Row> {
 
 /// The slices for a list, and its tape.
 fn lent(list: &List) -> (Lent, Vec<u8>) {
-    let operations = answer(list).0.ops.len() / PLACES;
+    let operations = answer(list).0.ops.len() / OP_PLACES;
     (Lent::new(list.gates.len(), list.n, operations, 0), tape(list).expect("a tape"))
 }
 

@@ -1,5 +1,6 @@
 //! A gate list, and how each gate comes onto the tape.
 
+use crate::layout::MAX_LABEL;
 use oracle::list::List;
 use oracle::rng::Rng;
 use oracle::tape::{header, label, record};
@@ -30,7 +31,7 @@ impl Case {
     pub fn given(rng: &mut Rng, list: List) -> Case {
         let mut form = || Form {
             given: rng.chance(1, 2),
-            label: rng.chance(1, 8).then(|| rng.pick(&[0, 1, 5, 40])),
+            label: rng.chance(1, 8).then(|| rng.pick(&[0, 1, 5, MAX_LABEL as u8])),
         };
         Case { forms: list.gates.iter().map(|_| form()).collect(), list }
     }

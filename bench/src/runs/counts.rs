@@ -2,6 +2,7 @@
 
 use super::case::Case;
 use super::sides::{compare, Seen};
+use crate::layout::question::{APART, LIMIT};
 
 /// Places of the numbers: first the five of `How`.
 const ACCEPTED: usize = 5;
@@ -41,7 +42,7 @@ impl Counts {
         numbers[seen.how as usize] += 1;
         match seen.number {
             0 => numbers[ACCEPTED] += 1,
-            number @ 11..=14 => numbers[REFUSED + number as usize - 11] += 1,
+            number @ APART..=LIMIT => numbers[REFUSED + (number - APART) as usize] += 1,
             _ => {}
         }
         numbers[ANSWERS] += seen.answers;

@@ -1,14 +1,10 @@
 //! Damage to the bytes of a tape, at random and where it tells.
 
+use crate::layout::{HEADER_BYTES, MAX_GATES};
 use oracle::reader::read;
 use oracle::rng::Rng;
 use oracle::tape::record;
 use original::gate::Gate;
-
-/// Bytes of the header.
-const HEADER: usize = 20;
-/// The most gates of a tape.
-const MOST: usize = 1024;
 
 /// Bytes that mean something somewhere.
 const TELLING: [u8; 16] = [
@@ -44,7 +40,7 @@ pub fn damage(rng: &mut Rng, bytes: &mut Vec<u8>) {
         }
         3 => bytes[at..end.min(at + 3)].iter_mut().for_each(|b| *b = any_byte(rng)),
         4 => bytes[at..end].iter_mut().take(1).for_each(|b| *b ^= 1 << rng.below(8)),
-        5 if bytes.len() >= HEADER => damage_header(rng, bytes),
+        5 if bytes.len() >= HEADER_BYTES => damage_header(rng, bytes),
         6 if rng.chance(1, 40) => too_many(rng, bytes),
         6 => {
             let copy = bytes[at..end].to_vec();
@@ -109,7 +105,7 @@ fn too_many(rng: &mut Rng, bytes: &mut Vec<u8>) {
     let Ok(tape) = read(bytes) else {
         return;
     };
-    let more = (MOST + rng.below(3)).saturating_sub(tape.gates.len() + 1);
+    let more = (MAX_GATES + rng.below(3)).saturating_sub(tape.gates.len() + 1);
     let gate = record(&Gate::X(0), false);
     (0..more).for_each(|_| bytes.extend(&gate));
 }

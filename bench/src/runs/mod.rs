@@ -13,6 +13,7 @@ mod sides;
 mod signs;
 
 use crate::asks;
+use crate::layout::question::{APART, LIMIT};
 use case::Case;
 use counts::Counts;
 use damaged::{Source, Tapes};
@@ -94,7 +95,7 @@ impl All {
             return;
         }
         match (seen.number, &seen.ran) {
-            (number @ 11..=14, _) => self.vectors.add(list, Err(number as u8)),
+            (number @ APART..=LIMIT, _) => self.vectors.add(list, Err(number as u8)),
             (_, Some(ran)) => {
                 let ask = |query: &_| ran.slice.ask(query).0;
                 let modes = &ran.slice.mode_of_qubit();

@@ -1,8 +1,9 @@
 //! What the port makes of a tape: `compile` and `run`, each in slices of its own.
 
+use crate::layout::{question, word, OP_PLACES};
 use crate::lent::{Lent, Told};
 use crate::slice::Slice;
-use oracle::compiled::answer::{Compiled, PLACES};
+use oracle::compiled::answer::Compiled;
 use oracle::tape::gates_on;
 
 /// A run that was accepted.
@@ -33,23 +34,22 @@ impl Ported {
         Ported { compiled: first.compiled(&compile, n), told, lent, well }
     }
 
-    /// Whether a run that is accepted is refused by 9, 10 or 15 if the slice has a place too few.
+    /// Whether a run that is accepted is refused if a slice has a place too few.
     pub fn refuses_short(tape: &[u8], n: usize, operations: usize) -> bool {
-        [9, 10, 15].into_iter().all(|question| {
-            let lent = Lent::new(gates_on(tape), n, operations, 0).short(question);
+        [question::WORK, question::OPERATIONS, question::STATE].into_iter().all(|asked| {
+            let lent = Lent::new(gates_on(tape), n, operations, 0).short(asked);
             lent.is_none_or(|mut lent| {
                 let told = lent.run(tape);
-                told.refused == [question, 0] && told.zero() && lent.kept(question, true)
+                told.refused == [asked, 0] && told.zero() && lent.kept(asked, true)
             })
         })
     }
 
     /// The state that the run made.
     pub fn ran(&self, n: usize) -> Ran {
-        let modes = self.told.report.modes().to_vec();
-        let slice = Slice { n, places: self.lent.state().to_vec(), modes };
-        let words = &self.told.report.words;
-        let ops = self.lent.ops()[..PLACES * words[8] as usize].to_vec();
-        Ran { slice, ops, exact: words[10] == 1 }
+        let report = &self.told.report;
+        let slice = Slice { n, places: self.lent.state().to_vec(), modes: report.modes().to_vec() };
+        let ops = self.lent.ops()[..OP_PLACES * report.operations()].to_vec();
+        Ran { slice, ops, exact: report.words[word::EXACT] == 1 }
     }
 }

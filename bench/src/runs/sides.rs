@@ -5,11 +5,12 @@ use super::evolution::evolved;
 use super::nearly::{answer_near, covariance, Nearly};
 use super::ported::{Ported, Ran};
 use crate::asks::equal;
+use crate::layout::{covariance_bytes, question, word, OP_PLACES, RECORD_OPS, REPORT_WORDS};
 use crate::lent::{Lent, Told};
 use crate::slice::Slice;
 use oracle::answer::{answer, answer_on, Answer};
 use oracle::bits::same;
-use oracle::compiled::answer::{answer as compiled, Compiled, PLACES};
+use oracle::compiled::answer::{answer as compiled, Compiled};
 use oracle::list::{List, DROP};
 use oracle::query::Query;
 use oracle::register::Register;
@@ -18,9 +19,6 @@ use oracle::state_text::parts;
 use oracle::tape::gates_on;
 use oracle::traced::LEAST_TOL;
 use original::access::state::access;
-
-/// Operations at most for each gate and each qubit.
-const MOST: usize = 3;
 
 /// How a list is compared.
 #[derive(Clone, Copy, PartialEq, Eq)]
@@ -104,7 +102,7 @@ fn both(
     register: Option<Register>,
     seen: &mut Seen,
 ) -> Checked {
-    let ported = Ported::of(tape, list.n, want.ops.len() / PLACES);
+    let ported = Ported::of(tape, list.n, want.ops.len() / OP_PLACES);
     seen.number = ported.told.refused[0];
     expect(ported.compiled.words() == want.words(), "the answer of compile")?;
     expect(ported.well, "slices after a call")?;
@@ -115,7 +113,7 @@ fn both(
     expect(ported.told.refused == [0, 0], "the verdict")?;
     let told = ported.lent.compiled(&ported.told, list.n);
     expect(told.words() == want.words(), "report or operations of the run")?;
-    let short = Ported::refuses_short(tape, list.n, want.ops.len() / PLACES);
+    let short = Ported::refuses_short(tape, list.n, want.ops.len() / OP_PLACES);
     expect(short, "the refusal of a slice that is too short")?;
     let ran = ported.ran(list.n);
     if seen.how == How::Angled {
@@ -143,8 +141,8 @@ fn both(
 /// operations, and the answers are the original's on this state.
 fn alone(list: &List, tape: &[u8], register: Option<Register>, seen: &mut Seen) -> Checked {
     let (gates, n) = (gates_on(tape), list.n);
-    let report = Lent::new(gates, n, MOST * (gates + n), 0).compile(tape).report;
-    let ported = Ported::of(tape, n, report.words[8] as usize);
+    let report = Lent::new(gates, n, RECORD_OPS * (gates + n), 0).compile(tape).report;
+    let ported = Ported::of(tape, n, report.operations());
     seen.number = ported.told.refused[0];
     expect(ported.compiled.refused == [0, 0], "compile")?;
     expect(ported.well, "slices after a call")?;
@@ -163,14 +161,13 @@ fn alone(list: &List, tape: &[u8], register: Option<Register>, seen: &mut Seen) 
 }
 
 /// The number that questions 11 to 14 give after such a report, or 0.
-fn verdict(list: &List, report: &[u64; 14]) -> u64 {
-    let [bad, nonadjacent, interactions] = [report[4], report[5], report[6]];
-    let bytes = 32 * (list.n * list.n) as u64;
+fn verdict(list: &List, report: &[u64; REPORT_WORDS]) -> u64 {
+    let bad = report[word::BAD];
     match () {
-        () if bad > 0 && bad == nonadjacent => 11,
-        () if bad > 0 => 12,
-        () if interactions > 0 && !list.has(DROP) => 13,
-        () if bytes > list.limit => 14,
+        () if bad > 0 && bad == report[word::NONADJACENT] => question::APART,
+        () if bad > 0 => question::BAD,
+        () if report[word::INTERACTIONS] > 0 && !list.has(DROP) => question::INTERACTION,
+        () if covariance_bytes(list.n) > list.limit => question::LIMIT,
         () => 0,
     }
 }

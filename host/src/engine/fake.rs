@@ -1,6 +1,10 @@
 //! An engine for tests of what stands around the engine: it answers what it was told to.
 
 use super::{Compiled, Engine, Operation, Ordering, Refusal, Report, Run, State};
+use crate::layout::{question, HEADER_BYTES};
+
+/// Bytes of a gate: these tests have one-qubit gates with a code only.
+const GATE: u64 = 4;
 
 pub struct Fake {
     pub compiled: Compiled,
@@ -56,11 +60,13 @@ impl Fake {
 
 impl Engine for Fake {
     fn compile(&self, tape: &[u8]) -> Result<Compiled, Refusal> {
-        // Four bytes a gate: these tests have one-qubit gates with a code only.
-        let gates = (tape.len() as u64 - 20) / 4;
+        let header = HEADER_BYTES as u64;
+        let gates = (tape.len() as u64 - header) / GATE;
         let mut compiled = self.compiled.clone();
         match self.number {
-            Some(number @ 1..=8) => return Err(Refusal { number, place: 20 + 4 * self.accepted }),
+            Some(number @ question::HEADER..=question::ENTRY) => {
+                return Err(Refusal { number, place: header + GATE * self.accepted })
+            }
             Some(_) if gates > self.accepted => compiled.report.bad = 1,
             _ => {}
         }
@@ -80,14 +86,14 @@ impl Engine for Fake {
 
     fn expectation_z(&self, _: &State, qubit: usize) -> Result<f64, Refusal> {
         match self.silent {
-            true => Err(Refusal { number: 19, place: 0 }),
+            true => Err(Refusal { number: question::LISTED, place: 0 }),
             false => Ok(self.parities[qubit]),
         }
     }
 
     fn expectation_z_product(&self, state: &State, qubits: &[usize]) -> Result<f64, Refusal> {
         match qubits.iter().position(|q| *q >= state.n) {
-            Some(place) => Err(Refusal { number: 19, place: place as u64 }),
+            Some(place) => Err(Refusal { number: question::LISTED, place: place as u64 }),
             None => Ok(qubits.iter().map(|q| self.parities[*q]).product()),
         }
     }
@@ -103,7 +109,7 @@ impl Engine for Fake {
     /// Each shot has the qubits whose draw is a half or more.
     fn sample(&self, state: &State, shots: usize, draws: &[f64]) -> Result<Vec<u128>, Refusal> {
         if let Some(place) = draws.iter().position(|x| !(0.0..1.0).contains(x)) {
-            return Err(Refusal { number: 22, place: place as u64 });
+            return Err(Refusal { number: question::DRAW, place: place as u64 });
         }
         let shot = |d: &[f64]| d.iter().rev().fold(0, |x, d| 2 * x + u128::from(*d >= 0.5));
         Ok(draws.chunks(state.n).take(shots).map(shot).collect())

@@ -1,5 +1,6 @@
 //! The original's answers to queries.
 
+use crate::layout::question;
 use crate::query::{index_text, Query};
 use crate::{bits, list::List};
 use original::access::state::GaussianState as AccessState;
@@ -16,10 +17,10 @@ pub enum Answer {
     Refused(u8, usize),
 }
 
-/// One bit for each qubit of a marginal: question 18.
-const BITS_MATCH: u8 = 18;
-/// Every listed qubit below n: question 19.
-const QUBITS_EXIST: u8 = 19;
+/// One bit for each qubit of a marginal.
+const BITS_MATCH: u8 = question::BITS as u8;
+/// Every listed qubit below n.
+const QUBITS_EXIST: u8 = question::LISTED as u8;
 
 /// A state of the original, in either of its module trees.
 pub trait Asked {

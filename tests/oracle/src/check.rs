@@ -1,6 +1,7 @@
 //! Answers, the original's or the port's, beside the state vector's.
 
 use crate::answer::{answer, Answer};
+use crate::layout::question;
 use crate::list::List;
 use crate::query::Query;
 use crate::rng::Rng;
@@ -67,7 +68,7 @@ impl Counts {
     pub fn add(&mut self, list: &List, run: Result<Accepted, u8>) {
         self.lists += 1;
         match run {
-            Err(number) => self.refused[number as usize - 11] += 1,
+            Err(number) => self.refused[(u64::from(number) - question::APART) as usize] += 1,
             Ok(run) if !run.exact => self.dropped += 1,
             Ok(_) if list.n > WIDEST => self.wide += 1,
             Ok(run) => self.check_answers(list, run.modes, run.ask),

@@ -9,6 +9,8 @@ pub mod compiled;
 pub mod families;
 pub mod fused;
 pub mod gate_text;
+#[path = "../../../host/src/layout.rs"]
+pub mod layout;
 pub mod leaves;
 pub mod list;
 pub mod printed;

@@ -3,6 +3,7 @@
 //! millionths are those of the exact value of its float.
 
 use crate::families;
+use crate::layout::{HEADER_BYTES, MAX_LABEL};
 use crate::list::List;
 use crate::reader::read;
 use crate::rng::Rng;
@@ -21,7 +22,7 @@ const QUBITS: usize = 8;
 const PAGE: usize = 4096;
 
 /// The longest label's record, and the shortest.
-const LONGEST: usize = 43;
+const LONGEST: usize = SHORTEST + MAX_LABEL;
 const SHORTEST: usize = 3;
 
 const NAMES: [&str; 4] = ["cut", "long", "most", "over"];
@@ -76,7 +77,7 @@ fn lists() -> [List; 2] {
 fn suits(list: &List) -> bool {
     let gates = list.gates.len();
     let records: usize = records(list).iter().map(Vec::len).sum();
-    if list.n != QUBITS || gates > GATES || records + SHORTEST * gates + 20 > PAGE {
+    if list.n != QUBITS || gates > GATES || records + SHORTEST * gates + HEADER_BYTES > PAGE {
         return false;
     }
     let ran = run(list);

@@ -2,6 +2,7 @@
 
 use crate::bits;
 use crate::gate_text::number;
+use crate::layout::{index_of, index_words};
 use std::fmt;
 
 /// One question.
@@ -59,8 +60,7 @@ fn probability(rest: &[&str]) -> Result<Query, String> {
     let [low, high] = rest else {
         return Err("prob takes two words, low first".to_string());
     };
-    let (low, high) = (bits::parse_word(low)?, bits::parse_word(high)?);
-    Ok(Query::Probability(u128::from(high) << 64 | u128::from(low)))
+    Ok(Query::Probability(index_of(bits::parse_word(low)?, bits::parse_word(high)?)))
 }
 
 fn sample(rest: &[&str]) -> Result<Query, String> {
@@ -91,7 +91,8 @@ fn at_colon<'a, 'b>(words: &'a [&'b str]) -> Result<(&'a [&'b str], &'a [&'b str
 
 /// The two words of a basis index or a shot, low first.
 pub fn index_text(x: u128) -> String {
-    format!("{:016x} {:016x}", x as u64, (x >> 64) as u64)
+    let [low, high] = index_words(x);
+    format!("{low:016x} {high:016x}")
 }
 
 impl fmt::Display for Query {

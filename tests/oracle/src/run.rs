@@ -1,6 +1,7 @@
 //! A run of the original on one list, and its text.
 
 use crate::answer::answer;
+use crate::layout::question;
 use crate::list::List;
 use crate::{bits, state_text};
 use original::circuit::SimError;
@@ -32,17 +33,18 @@ pub fn state(list: &List) -> Result<GaussianState, u8> {
 fn refusal(error: &SimError) -> u8 {
     let begins =
         |start: &str| matches!(error, SimError::NotSupported { what } if what.starts_with(start));
-    if begins("gaussian: the matchgates do not fit") {
-        11
+    let number = if begins("gaussian: the matchgates do not fit") {
+        question::APART
     } else if begins("gaussian: the circuit is not Gaussian") {
-        12
+        question::BAD
     } else if begins("gaussian: the circuit has non-zero interaction phases") {
-        13
+        question::INTERACTION
     } else if matches!(error, SimError::TooLarge { .. }) {
-        14
+        question::LIMIT
     } else {
         panic!("the original refuses with an unforeseen error: {error}")
-    }
+    };
+    number as u8
 }
 
 /// Writes the whole run: report, operations, verdict, state, answers.

@@ -1,6 +1,7 @@
 //! The tape of a gate list: header, then one record a gate. Gates that have no
 //! code of their own come as given matrices.
 
+use crate::layout::{given_floats, HEADER_BYTES};
 use crate::list::List;
 use original::gate::Gate;
 
@@ -70,21 +71,22 @@ pub fn coded(code: u8, qubits: &[usize], entries: &[f64]) -> Vec<u8> {
     out
 }
 
-/// The record of a label of at most 40 bytes.
+/// The record of a label.
 pub fn label(text: &[u8]) -> Vec<u8> {
     [&LABEL, &[text.len() as u8][..], text].concat()
 }
 
 /// How many gates a whole tape has; labels are not counted.
 pub fn gates_on(bytes: &[u8]) -> usize {
-    let (mut at, mut gates) = (20, 0);
+    let (mut at, mut gates) = (HEADER_BYTES, 0);
+    let matrix = |qubits: usize| size_of::<f64>() * given_floats(qubits);
     while at < bytes.len() {
         let (mark, third) = (bytes[at + 1], bytes[at + 2]);
         gates += usize::from(mark == GATE[1]);
         at += match (mark == GATE[1], third) {
             (false, length) => 3 + usize::from(length),
-            (true, GIVEN2) => 4 + 64,
-            (true, GIVEN4) => 5 + 256,
+            (true, GIVEN2) => 4 + matrix(1),
+            (true, GIVEN4) => 5 + matrix(2),
             (true, code) => 4 + usize::from(code >> 4),
         };
     }

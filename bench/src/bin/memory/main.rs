@@ -5,7 +5,8 @@ mod stack;
 
 use bench::circuits::{brick_wall, rotations};
 use bench::jozkeral::{self, State, Work};
-use oracle::compiled::answer::{answer, PLACES};
+use bench::layout::{state_places, INDEX_WORDS, MAX_QUBITS, OP_PLACES};
+use oracle::compiled::answer::answer;
 use oracle::list::List;
 use oracle::rng::Rng;
 use oracle::tape::tape;
@@ -22,7 +23,7 @@ fn main() {
         "{:<26} {:>14} {:>10} {:>14} {:>10} {:>8}",
         "bytes at most", "original heap", "stack", "port slices", "stack", "ratio"
     );
-    for n in [60, 128] {
+    for n in [60, MAX_QUBITS] {
         line(&format!("brick wall, n = {n}"), &brick_wall(n, GATES));
         line(&format!("rotations, n = {n}"), &rotations(&mut Rng::new(SEED), n, GATES));
     }
@@ -34,7 +35,7 @@ fn line(name: &str, list: &List) {
     let draws: Vec<f64> = (0..list.n).map(|_| rng.unit()).collect();
     let all: Vec<usize> = (0..list.n).collect();
     let (circuit, bytes) = (list.circuit(), tape(list).expect("a tape"));
-    let operations = answer(list).0.ops.len() / PLACES;
+    let operations = answer(list).0.ops.len() / OP_PLACES;
     let [a, b] = measured(&mut || {
         let run = GaussianState::from_circuit(&circuit, &list.options());
         let (s, _report) = run.expect("accepted");
@@ -50,13 +51,13 @@ fn line(name: &str, list: &List) {
 fn ported(list: &List, operations: usize, tape: &[u8], all: &[usize], draws: &[f64]) {
     let n = list.n;
     let mut work = Work::new(list.gates.len(), n);
-    let mut ops = vec![0.0; PLACES * operations];
-    let mut slice = vec![0.0; 4 * n * n + 2 * n];
+    let mut ops = vec![0.0; OP_PLACES * operations];
+    let mut slice = vec![0.0; state_places(n)];
     let (report, told) = jozkeral::run(tape, &mut work, &mut ops, &mut slice);
     told.expect("accepted");
     let state = State { n, slice: &slice, modes: report.modes() };
     black_box(state.expectation_z_product(all, &mut work.floats).expect("good qubits"));
-    let mut shot = [0; 2];
+    let mut shot = [0; INDEX_WORDS];
     state.sample(1, draws, &mut work.floats, &mut shot).expect("good draws");
     black_box(shot);
 }

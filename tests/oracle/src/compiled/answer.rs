@@ -4,18 +4,20 @@
 
 use crate::bits::word;
 use crate::classify::rule;
+use crate::layout::{kind, ordering, word as at, MEASURES, OP_PLACES, REPORT_WORDS, TABLES};
 use crate::list::List;
 use crate::run::path_starts;
 use crate::traced::{traced, Traced};
 use original::access::detect::access::{diag_phases, fuse, Item, Kind};
 use original::access::detect::DetectOptions;
-use original::engines::gaussian::detect::{compile, GaussOp, GaussianProgram, GaussianReport};
+use original::engines::gaussian::detect::{
+    compile, GaussOp, GaussianProgram, GaussianReport, Ordering,
+};
 use original::gate::Mat4;
 use original::Complex64;
 
-/// Places of an operation: kind, mode, 16 numbers.
-pub const PLACES: usize = 18;
-pub type Places = [f64; PLACES];
+/// An operation: kind, mode, 16 numbers.
+pub type Places = [f64; OP_PLACES];
 
 /// Largest difference between the original's rotations and the rule's.
 const CLOSE: f64 = 1e-9;
@@ -25,13 +27,11 @@ const CLOSE: f64 = 1e-9;
 pub struct Compiled {
     /// Number and place of a refusal, or zeros.
     pub refused: [u64; 2],
-    /// n, blocks, two-qubit blocks, Gaussian, bad, nonadjacent, interactions, swaps relabelled,
-    /// operations, number conserving, exact, free, angled, ordering (identity, paths, greedy).
-    pub report: [u64; 14],
+    pub report: [u64; REPORT_WORDS],
     /// Fraction and maximal residual.
-    pub measures: [f64; 2],
-    /// The wire on each mode, whether a path starts there, the mode of each qubit.
-    pub tables: [Vec<u64>; 3],
+    pub measures: [f64; MEASURES],
+    /// The wire on each mode, whether a path starts there, the mode of each qubit; n entries each.
+    pub tables: [Vec<u64>; TABLES],
     /// The operations, one after the other.
     pub ops: Vec<f64>,
 }
@@ -67,30 +67,40 @@ pub fn answer(list: &List) -> (Compiled, Traced) {
     (compiled, seen)
 }
 
-fn report(r: &GaussianReport, operations: usize, angled: bool) -> [u64; 14] {
-    let ordering = r.ordering.expect("compile always names an ordering");
-    [
-        r.n,
-        r.blocks,
-        r.blocks_2q,
-        r.gaussian_blocks,
-        r.non_gaussian,
-        r.nonadjacent,
-        r.interactions.len(),
-        r.swaps_relabelled,
-        operations,
-        usize::from(r.number_conserving),
-        usize::from(r.exact),
-        usize::from(r.free),
-        usize::from(angled),
-        ordering as usize,
-    ]
-    .map(|x| x as u64)
+fn report(r: &GaussianReport, operations: usize, angled: bool) -> [u64; REPORT_WORDS] {
+    let mut words = [0; REPORT_WORDS];
+    for (place, count) in [
+        (at::N, r.n),
+        (at::BLOCKS, r.blocks),
+        (at::TWO, r.blocks_2q),
+        (at::GAUSSIAN, r.gaussian_blocks),
+        (at::BAD, r.non_gaussian),
+        (at::NONADJACENT, r.nonadjacent),
+        (at::INTERACTIONS, r.interactions.len()),
+        (at::SWAPS, r.swaps_relabelled),
+        (at::OPERATIONS, operations),
+    ] {
+        words[place] = count as u64;
+    }
+    for (place, says) in [
+        (at::CONSERVING, r.number_conserving),
+        (at::EXACT, r.exact),
+        (at::FREE, r.free),
+        (at::ANGLED, angled),
+    ] {
+        words[place] = says.into();
+    }
+    words[at::ORDERING] = match r.ordering.expect("compile always names an ordering") {
+        Ordering::Identity => ordering::IDENTITY,
+        Ordering::Paths => ordering::PATHS,
+        Ordering::GreedyCover => ordering::GREEDY,
+    };
+    words
 }
 
 /// Kind, mode, and the numbers that follow.
-fn filled(kind: f64, mode: usize, numbers: &[f64]) -> Places {
-    let mut out = [0.0; PLACES];
+pub fn filled(kind: f64, mode: usize, numbers: &[f64]) -> Places {
+    let mut out = [0.0; OP_PLACES];
     (out[0], out[1]) = (kind, mode as f64);
     out[2..2 + numbers.len()].copy_from_slice(numbers);
     out
@@ -99,8 +109,8 @@ fn filled(kind: f64, mode: usize, numbers: &[f64]) -> Places {
 /// The places of an operation of an unangled list, which has no interaction.
 fn places(op: &GaussOp) -> Places {
     match op {
-        GaussOp::One { mode, q } => filled(1.0, *mode, q.as_flattened()),
-        GaussOp::Two { mode, q } => filled(2.0, *mode, q.as_flattened()),
+        GaussOp::One { mode, q } => filled(kind::ONE, *mode, q.as_flattened()),
+        GaussOp::Two { mode, q } => filled(kind::TWO, *mode, q.as_flattened()),
         GaussOp::Interaction(_) => unreachable!("a diagonal block in a list that is not angled"),
     }
 }
@@ -150,7 +160,7 @@ fn diagonal<'a>(
             None => close(&[1.0, 0.0, 0.0, 1.0], &q_or_none),
         };
         assert!(near, "the rotation of {p}, {angle}");
-        out.extend(q.map(|q| filled(1.0, mode, &q)));
+        out.extend(q.map(|q| filled(kind::ONE, mode, &q)));
     }
     if let Some(block) = interacts {
         let unit = rule::unit(w);
@@ -162,7 +172,8 @@ fn diagonal<'a>(
             }
             other => panic!("{other:?} in the place of an interaction"),
         }
-        out.push(filled(3.0, modes[0], &[block as f64, modes[1] as f64, unit.re, unit.im]));
+        let numbers = [block as f64, modes[1] as f64, unit.re, unit.im];
+        out.push(filled(kind::INTERACTION, modes[0], &numbers));
     }
     out
 }

@@ -2,18 +2,12 @@
 //! Refusals are by the paper: the original has no tape and no limits.
 
 use super::{accepted, add as add_record, plain, Lent, TOL};
-use crate::compiled::answer::{answer, Compiled, PLACES};
+use crate::compiled::answer::{answer, Compiled};
+use crate::layout::{HEADER_BYTES, MAX_GATES, MAX_QUBITS, OP_PLACES};
 use crate::list::{List, DROP, RELABEL, REORDER};
 use crate::records::Records;
 use crate::tape::tape;
 use original::gate::Gate;
-
-/// The largest tape.
-const MOST_QUBITS: usize = 128;
-const MOST_GATES: usize = 1024;
-
-/// Bytes of the header.
-const HEADER: usize = 20;
 
 fn of(n: usize, flags: u8, gates: &[Gate]) -> List {
     List { n, flags, tol: TOL, limit: 0, gates: gates.to_vec(), queries: vec![] }
@@ -42,9 +36,9 @@ fn accepted_lists() -> Vec<List> {
         of(0, BOTH, &[]),
         of(1, BOTH, &[]),
         of(3, 0, &[]),
-        of(MOST_QUBITS, BOTH, &[]),
-        of(MOST_QUBITS, BOTH, &[ISwap(0, 127), X(127), ISwap(126, 127), Swap(3, 64)]),
-        of(1, BOTH, &[X(0); MOST_GATES]),
+        of(MAX_QUBITS, BOTH, &[]),
+        of(MAX_QUBITS, BOTH, &[ISwap(0, 127), X(127), ISwap(126, 127), Swap(3, 64)]),
+        of(1, BOTH, &[X(0); MAX_GATES]),
         of(3, BOTH, &[ISwap(0, 2)]),
         of(3, RELABEL, &[ISwap(0, 2)]),
         of(3, BOTH, &[ISwap(0, 1), ISwap(1, 2), ISwap(0, 2)]),
@@ -75,7 +69,7 @@ fn labels(out: &mut Records) {
     let whole = bytes(&list);
     let label = [&[0x51, 0x4c, 40][..], &[b'~'; 40]].concat();
     let none = [0x51, 0x4c, 0];
-    let (head, flip, last) = (&whole[..HEADER], &whole[HEADER..24], &whole[24..]);
+    let (head, flip, last) = (&whole[..HEADER_BYTES], &whole[HEADER_BYTES..24], &whole[24..]);
     let tape = [head, &label, flip, &none, last, &label].concat();
     assert!(accepted(out, &list, &tape, |_| true), "room for labels");
 }
@@ -98,7 +92,7 @@ pub fn refused_tapes() -> Vec<(Vec<u8>, u64, usize)> {
     };
     let then = |more: &[u8]| [&good[..], more].concat();
     let tol = |x: f64| [&good[..4], &x.to_le_bytes(), &good[12..]].concat();
-    let mut many = bytes(&of(1, 0, &[X(0); MOST_GATES]));
+    let mut many = bytes(&of(1, 0, &[X(0); MAX_GATES]));
     many.extend([0x51, 0x47, 0x02, 9]);
     let given = |x: f64| {
         let entries = [0.0, 0.0, 1.0, 0.0, 1.0, 0.0, x, 0.0];
@@ -107,21 +101,21 @@ pub fn refused_tapes() -> Vec<(Vec<u8>, u64, usize)> {
     let above = |x: f64| f64::from_bits(x.to_bits() + 1);
     vec![
         (vec![], 1, 0),
-        (good[..HEADER - 1].to_vec(), 1, 0),
+        (good[..HEADER_BYTES - 1].to_vec(), 1, 0),
         (with(1, 0x47), 1, 0),
         (with(2, 129), 2, 0),
         (with(3, 8), 2, 0),
         (tol(above(0.001)), 3, 0),
         (tol(-f64::from_bits(1)), 3, 0),
         (tol(f64::NAN), 3, 0),
-        (many, 4, HEADER + 4 * MOST_GATES),
+        (many, 4, HEADER_BYTES + 4 * MAX_GATES),
         (good[..end - 1].to_vec(), 5, 24),
         (then(&[0x51]), 5, end),
-        (with(22, 0x09), 5, HEADER),
-        (then(&good[..HEADER]), 5, end),
+        (with(22, 0x09), 5, HEADER_BYTES),
+        (then(&good[..HEADER_BYTES]), 5, end),
         (then(&[0x51, 0x4c, 41]), 5, end),
         (then(&[0x51, 0x4c, 1, 0x7f]), 5, end),
-        (with(23, 2), 6, HEADER),
+        (with(23, 2), 6, HEADER_BYTES),
         (with(28, 0), 7, 24),
         (given(above(2.0)), 8, end),
         (given(f64::NAN), 8, end),
@@ -134,7 +128,7 @@ fn slices(out: &mut Records) {
     for gates in [&[X(0), ISwap(0, 1), ISwap(1, 2)][..], &[Cz(0, 1), T(2)], &[Ccx(0, 1, 2)], &[]] {
         let list = of(3, 0, gates);
         let (tape, (compiled, _)) = (bytes(&list), answer(&list));
-        let Lent(enough) = Lent::exactly(gates.len(), 3, compiled.ops.len() / PLACES);
+        let Lent(enough) = Lent::exactly(gates.len(), 3, compiled.ops.len() / OP_PLACES);
         let zeros = [enough[0], enough[1]];
         assert!(add_record(out, &tape, Lent(enough), zeros, &compiled));
         for k in 0..3 {

@@ -2,6 +2,7 @@
 //! where its paths start.
 
 use super::{plain, TOL};
+use crate::layout::{word, MAX_GATES, MAX_QUBITS, OP_PLACES};
 use crate::list::{List, RELABEL, REORDER};
 use crate::records::Records;
 use crate::rng::Rng;
@@ -14,8 +15,8 @@ type Edge = ((usize, usize), usize);
 /// Flags of random lists: mostly with reordering.
 const FLAGS: [u8; 5] = [REORDER, REORDER, REORDER | RELABEL, REORDER | RELABEL, RELABEL];
 
-/// The most gates of a tape.
-const MOST: usize = 1024;
+/// Operation places of a small list at most, so that there is room for many.
+const MOST_PLACES: usize = 4 * OP_PLACES;
 
 /// A graph on n wires.
 #[derive(Clone)]
@@ -44,11 +45,13 @@ pub fn add(out: &mut Records) {
         met.count(&graph);
     }
     let wide = wide(rng);
-    assert!(plain(out, &list(rng, &wide, REORDER), |c| c.report[12] == 0), "1,024 matchgates");
+    let added = plain(out, &list(rng, &wide, REORDER), |c| c.report[word::ANGLED] == 0);
+    assert!(added, "{MAX_GATES} matchgates");
     for _ in 0..400 {
         let graph = random(rng);
         let flags = rng.pick(&FLAGS);
-        if plain(out, &list(rng, &graph, flags), |c| c.ops.len() <= 72) && flags & REORDER != 0 {
+        let small = plain(out, &list(rng, &graph, flags), |c| c.ops.len() <= MOST_PLACES);
+        if small && flags & REORDER != 0 {
             met.count(&graph);
         }
     }
@@ -125,22 +128,22 @@ fn shapes(rng: &mut Rng) -> Vec<Graph> {
     all
 }
 
-/// `MOST` blocks on random pairs of 128 wires.
+/// As many blocks as there may be, on random pairs of as many wires.
 fn wide(rng: &mut Rng) -> Graph {
     let mut pairs = Vec::new();
-    while pairs.len() < MOST {
-        let (a, b) = (rng.below(128), rng.below(128));
+    while pairs.len() < MAX_GATES {
+        let (a, b) = (rng.below(MAX_QUBITS), rng.below(MAX_QUBITS));
         pairs.extend((a != b).then_some((a, b)));
     }
-    Graph::of(128, pairs)
+    Graph::of(MAX_QUBITS, pairs)
 }
 
-/// Blocks on the edges of a random graph, small or of 128 wires.
+/// Blocks on the edges of a random graph, small or of as many wires as there may be.
 pub fn random_list(rng: &mut Rng, wide: bool) -> List {
     let graph = if wide { self::wide(rng) } else { random(rng) };
     let flags = rng.pick(&FLAGS);
     let mut list = list(rng, &graph, flags);
-    list.gates.truncate(MOST);
+    list.gates.truncate(MAX_GATES);
     list
 }
 

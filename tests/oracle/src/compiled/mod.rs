@@ -8,10 +8,11 @@ pub mod graphs;
 mod random;
 
 use crate::bits::word;
+use crate::layout::{work_floats, work_marks, OP_PLACES};
 use crate::list::List;
 use crate::records::Records;
 use crate::tape::{gates_on, tape};
-use answer::{answer, Compiled, PLACES};
+use answer::{answer, Compiled};
 
 /// The only tag.
 const TAPE: u64 = 1;
@@ -29,7 +30,7 @@ struct Lent([usize; 3]);
 impl Lent {
     /// What questions 9 and 10 ask for: the places for so many gates, qubits and operations.
     fn exactly(gates: usize, n: usize, operations: usize) -> Lent {
-        Lent([64 * (gates + n), 32 * (gates + n), PLACES * operations])
+        Lent([work_floats(gates, n), work_marks(gates, n), OP_PLACES * operations])
     }
 
     /// With some places more.
@@ -55,7 +56,7 @@ fn accepted(
     wanted: impl Fn(&Compiled) -> bool,
 ) -> bool {
     let (compiled, seen) = answer(list);
-    let (gates, operations) = (gates_on(bytes), compiled.ops.len() / PLACES);
+    let (gates, operations) = (gates_on(bytes), compiled.ops.len() / OP_PLACES);
     let exactly = Lent::exactly(gates, list.n, operations);
     let zeros = [exactly.0[0], exactly.0[1]];
     let lent = exactly.more([operations % 3, gates % 3, gates % 4]);

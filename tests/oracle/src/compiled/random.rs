@@ -3,17 +3,14 @@
 use super::accepted;
 use crate::families;
 use crate::fused;
+use crate::layout::{word, OP_PLACES};
 use crate::records::Records;
 use crate::rng::Rng;
 use crate::tape::tape;
 
 /// Operation places and tape bytes of a list at most, so that there is room for many.
-const MOST_PLACES: usize = 144;
+const MOST_PLACES: usize = 8 * OP_PLACES;
 const MOST_BYTES: usize = 800;
-
-/// Places in the report: whether no block is bad, and whether a cut passed an off-diagonal test.
-const FREE: usize = 11;
-const ANGLED: usize = 12;
 
 /// Lists that compare in every bit.
 pub fn exact(out: &mut Records) {
@@ -30,7 +27,7 @@ pub fn angled(out: &mut Records) {
 /// Swaps by code and by matrix, and the small lists.
 fn fixed(out: &mut Records, angled: u64) {
     for (list, bytes) in fused::fixed() {
-        accepted(out, &list, &bytes, |c| c.report[ANGLED] == angled);
+        accepted(out, &list, &bytes, |c| c.report[word::ANGLED] == angled);
     }
 }
 
@@ -43,8 +40,8 @@ fn random(out: &mut Records, angled: u64, names: &[&str]) {
         let bytes = tape(&list).expect("a tape");
         if bytes.len() <= MOST_BYTES {
             accepted(out, &list, &bytes, |c| {
-                let free = c.report[FREE] == 1 || k / names.len() % 5 == 0;
-                free && c.report[ANGLED] == angled && c.ops.len() <= MOST_PLACES
+                let free = c.report[word::FREE] == 1 || k / names.len() % 5 == 0;
+                free && c.report[word::ANGLED] == angled && c.ops.len() <= MOST_PLACES
             });
         }
     }

@@ -1,6 +1,7 @@
 //! Headers and queries of random lists.
 
 use super::maker::Maker;
+use crate::layout::covariance_bytes;
 use crate::list::List;
 use crate::query::Query;
 use crate::rng::Rng;
@@ -29,7 +30,7 @@ pub fn tol(rng: &mut Rng) -> f64 {
 
 /// A byte limit: mostly none that counts, else at the edge or one below it.
 pub fn limit(rng: &mut Rng, n: usize) -> u64 {
-    let edge = 32 * (n * n) as u64;
+    let edge = covariance_bytes(n);
     match rng.below(24) {
         0 => edge,
         1 => edge.saturating_sub(1),

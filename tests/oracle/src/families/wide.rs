@@ -2,13 +2,12 @@
 
 use super::pieces::phase;
 use super::{angles, matchgate, reorder};
+use crate::layout::MAX_GATES;
 use crate::list::{List, RELABEL, REORDER};
 use crate::rng::Rng;
 
 /// Blocks at most: with its tails one has up to 16 gates, most have fewer.
 const BLOCKS: usize = 140;
-/// The most gates of a tape.
-const MOST: usize = 1024;
 
 pub fn make(rng: &mut Rng) -> List {
     let n = rng.pick(&[13, 16, 32, 33, 60, 64, 65, 100, 127, 128]);
@@ -19,6 +18,6 @@ pub fn make(rng: &mut Rng) -> List {
         1 => angles::on(rng, n, flags | RELABEL, blocks, false, phase),
         _ => matchgate::on(rng, n, flags, blocks),
     };
-    list.gates.truncate(MOST);
+    list.gates.truncate(MAX_GATES);
     list
 }

@@ -3,6 +3,7 @@
 use super::ran::Ran;
 use crate::answer::{answer, Answer};
 use crate::bits::word;
+use crate::layout::{index_words, query_places, INDEX_WORDS};
 use crate::list::List;
 use crate::query::Query;
 use crate::state_lists::machine::Machine;
@@ -45,7 +46,7 @@ pub fn all(list: &List, ran: &Ran) -> Vec<Asked> {
 /// Puts query k; work and output are a few places longer than they must be.
 fn ask(machine: &Machine, n: usize, k: usize, query: &Query) -> Asked {
     let wide = |xs: &[usize]| xs.iter().map(|&x| x as u64).collect::<Vec<u64>>();
-    let work = |modes: usize| 4 * modes * modes + k % 3;
+    let work = |modes: usize| query_places(modes) + k % 3;
     match query {
         Query::Z(q) => asked(tag::Z, wide(&[*q]), &[&[0, 0], &machine.z_words(*q)[..]].concat()),
         Query::Zz(i, j) => {
@@ -63,11 +64,11 @@ fn ask(machine: &Machine, n: usize, k: usize, query: &Query) -> Asked {
             asked(tag::MARGINAL, before, &machine.marginal_words(qs, &bits, work(qs.len().min(n))))
         }
         Query::Probability(x) => {
-            let (low, high) = (*x as u64, (x >> 64) as u64);
+            let [low, high] = index_words(*x);
             asked(tag::PROBABILITY, vec![low, high], &machine.probability_words(low, high, work(n)))
         }
         Query::Sample(shots, draws) => {
-            let out = 2 * shots + k % 2;
+            let out = INDEX_WORDS * shots + k % 2;
             let (answer, output) = machine.sample_words(*shots, draws, out, work(n));
             let mut before = wide(&[*shots, draws.len(), out]);
             before.extend(draws.iter().map(|&x| word(x)));
@@ -91,7 +92,7 @@ fn is_original(asked: &Asked, list: &List, query: &Query, state: &GaussianState)
         Answer::Value(x) => asked.answer == [0, 0, word(x)],
         Answer::Refused(number, place) => asked.answer == [u64::from(number), place as u64, 0],
         Answer::Shots(shots) => {
-            let words = shots.iter().flat_map(|&x| [x as u64, (x >> 64) as u64]);
+            let words = shots.iter().flat_map(|&x| index_words(x));
             asked.answer == [0, 0, 0] && words.zip(&asked.output).all(|(a, b)| a == *b)
         }
     }

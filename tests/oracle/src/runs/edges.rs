@@ -6,8 +6,11 @@
 
 use super::{add as add_record, add_run, asked, exactly, Lent, Ran, TOL};
 use crate::bits::word;
-use crate::compiled::answer::PLACES;
 use crate::compiled::edges::refused_tapes;
+use crate::layout::{
+    measure, table, word as at, work_floats, work_marks, HEADER_BYTES, MAX_GATES, MAX_QUBITS,
+    OP_PLACES,
+};
 use crate::list::{List, DROP, RELABEL, REORDER};
 use crate::query::Query;
 use crate::records::Records;
@@ -196,10 +199,10 @@ fn order_of_questions() -> Vec<Edge> {
 /// 128 qubits, 1,024 gates, and both.
 fn large() -> Vec<Edge> {
     use Gate::*;
-    let wide = of(128, BOTH, &[ISwap(0, 127), X(127), ISwap(126, 127), Swap(3, 64), X(64)]);
+    let wide = of(MAX_QUBITS, BOTH, &[ISwap(0, 127), X(127), ISwap(126, 127), Swap(3, 64), X(64)]);
     let ones: u128 = 1 << 126 | 1 << 64;
-    let all: Vec<usize> = (0..128).collect();
-    let draws: Vec<f64> = (0..128).map(|k| f64::from(k % 8) / 8.0).collect();
+    let all: Vec<usize> = (0..MAX_QUBITS).collect();
+    let draws: Vec<f64> = all.iter().map(|&k| (k % 8) as f64 / 8.0).collect();
     let asks = vec![
         (Query::Z(126), Says::Value(-1.0)),
         (Query::Z(127), Says::Value(1.0)),
@@ -214,15 +217,15 @@ fn large() -> Vec<Edge> {
         (Query::Z(0), Says::Value(if bits & 1 == 1 { -1.0 } else { 1.0 })),
         (Query::Probability(bits), Says::Value(1.0)),
     ];
-    vec![yes(wide, asks), yes(of(1, BOTH, &[X(0); 1024]), zs(&[1.0])), yes(busy, asks_busy)]
+    vec![yes(wide, asks), yes(of(1, BOTH, &[X(0); MAX_GATES]), zs(&[1.0])), yes(busy, asks_busy)]
 }
 
 /// The largest tape: 1,024 flips and exchanges of neighbours on 128 qubits, and the register's bits.
 fn busy() -> (List, u128) {
     let rng = &mut Rng::new(4);
     let (mut gates, mut bits) = (Vec::new(), 0u128);
-    for _ in 0..1024 {
-        let q = rng.below(127);
+    for _ in 0..MAX_GATES {
+        let q = rng.below(MAX_QUBITS - 1);
         if rng.chance(1, 4) {
             gates.push(Gate::X(q));
             bits ^= 1 << q;
@@ -232,14 +235,16 @@ fn busy() -> (List, u128) {
             bits ^= (x ^ y) << q | (x ^ y) << (q + 1);
         }
     }
-    (of(128, 0, &gates), bits)
+    (of(MAX_QUBITS, 0, &gates), bits)
 }
 
 /// Order, ordering and mode table, as the paper has them.
 fn tables() {
     let words = |list: &List| {
         let c = Ran::of(list).compiled;
-        (c.report[13], c.tables[0].clone(), c.tables[2].clone(), c.measures[0])
+        let table = |which: usize| c.tables[which].clone();
+        let fraction = c.measures[measure::FRACTION];
+        (c.report[at::ORDERING], table(table::ORDER), table(table::MODES), fraction)
     };
     let iswap = words(&of(3, BOTH, &[Gate::ISwap(0, 2)]));
     assert_eq!((iswap.0, iswap.1), (1, vec![0, 2, 1]), "by paths");
@@ -251,7 +256,7 @@ fn tables() {
 fn labels(out: &mut Records) {
     let list = of(2, REORDER, &[Gate::X(1), Gate::ISwap(0, 1)]);
     let whole = bytes(&list);
-    let (head, gates) = whole.split_at(20);
+    let (head, gates) = whole.split_at(HEADER_BYTES);
     let (flip, last) = gates.split_at(4);
     let (label, none) = ([&[0x51, 0x4c, 2][..], b"hi"].concat(), [0x51, 0x4c, 0]);
     let tape = [head, &label, flip, &none, last, &label].concat();
@@ -282,7 +287,7 @@ fn apart(out: &mut Records) {
     check(&first, &ran);
     assert!(add_run(out, &bytes(&first.list), &first.list, &ran), "room for the first");
     let second = exactly(of(2, 0, &[Cz(0, 1), Rz(1, 0.3), Phase(0, 2.0), Cz(0, 1)]));
-    let refused = Ran { places: 3 * PLACES, ..Ran::refused(13, 0) };
+    let refused = Ran { places: 3 * OP_PLACES, ..Ran::refused(13, 0) };
     assert!(add_run(out, &bytes(&second), &second, &refused), "room for the second");
     let original = [&first.list, &second].map(|list| run(list).state.err());
     assert_eq!(original, [Some(13), None]);
@@ -313,9 +318,12 @@ fn short_slices() -> Vec<Refusal> {
     let gates = [X(0), ISwap(0, 1), ISwap(1, 2)];
     let list = of(3, 0, &gates);
     let enough = exactly(gates.len(), list.n, &Ran::of(&list));
+    let work = |list: &List| {
+        let (g, n) = (list.gates.len(), list.n);
+        [work_floats(g, n), work_marks(g, n)]
+    };
     let refusal = |list: &List, lent: Lent, number: u64| {
-        let work = 32 * (list.gates.len() + list.n);
-        let zeros = if number == 9 { [0, 0] } else { [2 * work, work] };
+        let zeros = if number == 9 { [0, 0] } else { work(list) };
         Refusal { tape: bytes(list), lent, zeros, number, place: 0 }
     };
     let mut out = Vec::new();
@@ -326,7 +334,11 @@ fn short_slices() -> Vec<Refusal> {
         short[k + 1..].fill(0);
         out.push(refusal(&list, short, number));
     }
-    out.push(refusal(&of(3, RELABEL, &[X(1), ISwap(0, 2)]), [320, 160, 0, 0], 11));
-    out.push(refusal(&List { limit: 127, ..of(2, 0, &[]) }, [128, 64, 0, 0], 14));
+    let apart = of(3, RELABEL, &[X(1), ISwap(0, 2)]);
+    let limited = List { limit: 127, ..of(2, 0, &[]) };
+    for (list, number) in [(apart, 11), (limited, 14)] {
+        let [floats, marks] = work(&list);
+        out.push(refusal(&list, [floats, marks, 0, 0], number));
+    }
     out
 }

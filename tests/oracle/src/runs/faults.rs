@@ -1,7 +1,7 @@
 //! The engine's `apply` written again, with a fault of the signs if one is
 //! asked for: what a stored tape must show.
 
-use crate::compiled::answer::PLACES;
+use crate::layout::{kind, OP_PLACES};
 use original::access::state::access::det;
 
 #[derive(Clone, Copy, Debug, PartialEq)]
@@ -25,7 +25,7 @@ pub const FAULTS: [Fault; 4] = [Fault::NoTurn, Fault::TurnOwn, Fault::TurnNext, 
 /// Z of every mode after the operations, from the vacuum.
 pub fn z(n: usize, ops: &[f64], fault: Fault) -> Vec<f64> {
     let mut state = State::vacuum(n);
-    for (k, op) in ops.chunks(PLACES).enumerate() {
+    for (k, op) in ops.chunks(OP_PLACES).enumerate() {
         state.apply(k, op, fault);
     }
     (0..n).map(|mode| state.entry(2 * mode, 2 * mode + 1)).collect()
@@ -34,18 +34,22 @@ pub fn z(n: usize, ops: &[f64], fault: Fault) -> Vec<f64> {
 /// The operations that turn later modes.
 pub fn turns(n: usize, ops: &[f64]) -> Vec<usize> {
     let turns = |op: &[f64]| is_odd(op) && width(op) + 2 * (op[1] as usize) < 2 * n;
-    ops.chunks(PLACES).enumerate().filter(|(_, op)| turns(op)).map(|(k, _)| k).collect()
+    ops.chunks(OP_PLACES).enumerate().filter(|(_, op)| turns(op)).map(|(k, _)| k).collect()
 }
 
-/// Operators that a map is on; kinds are 1 and 2 here.
+/// Operators that a map is on; here is no interaction.
 fn width(op: &[f64]) -> usize {
-    2 * op[0] as usize
+    if op[0] == kind::ONE {
+        2
+    } else {
+        4
+    }
 }
 
 fn is_odd(op: &[f64]) -> bool {
     match width(op) {
         2 => det::<2>(&op[2..6]) < 0.0,
-        _ => det::<4>(&op[2..18]) < 0.0,
+        _ => det::<4>(&op[2..OP_PLACES]) < 0.0,
     }
 }
 

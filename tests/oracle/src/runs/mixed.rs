@@ -5,6 +5,7 @@ use super::add_run;
 use super::ran::Ran;
 use crate::check::Counts;
 use crate::families;
+use crate::layout::{ordering, word};
 use crate::list::{List, DROP};
 use crate::records::Records;
 use crate::rng::Rng;
@@ -13,10 +14,6 @@ use crate::tape::tape;
 /// Qubits and tape bytes of a list at most, so that there is room for many.
 const MOST_QUBITS: usize = 6;
 const MOST_BYTES: usize = 900;
-
-/// Places in the report: interactions, and the ordering (0 is the identity).
-const INTERACTIONS: usize = 6;
-const ORDERING: usize = 13;
 
 /// What a list is about, and the family that it comes from.
 #[derive(Clone, Copy)]
@@ -78,8 +75,8 @@ fn fits(kind: Kind, ran: &Ran) -> bool {
     let (report, busy) = (ran.compiled.report, !ran.compiled.ops.is_empty());
     match kind {
         Kind::Plain => busy && !ran.seen.angled,
-        Kind::Reordered => busy && report[ORDERING] > 0,
-        Kind::Dropped => busy && report[INTERACTIONS] > 0,
+        Kind::Reordered => busy && report[word::ORDERING] != ordering::IDENTITY,
+        Kind::Dropped => busy && report[word::INTERACTIONS] > 0,
         Kind::Refused => !ran.accepted(),
     }
 }

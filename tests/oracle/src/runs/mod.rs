@@ -12,6 +12,7 @@ mod register;
 mod signs;
 
 use crate::bits::word;
+use crate::layout::{work_floats, work_marks};
 use crate::list::List;
 use crate::records::{words_of, Records};
 use crate::rng::Rng;
@@ -35,7 +36,7 @@ type Lent = [usize; 4];
 
 /// What questions 9, 10 and 15 ask for.
 fn exactly(gates: usize, n: usize, ran: &Ran) -> Lent {
-    [64 * (gates + n), 32 * (gates + n), ran.places, ran.state.len()]
+    [work_floats(gates, n), work_marks(gates, n), ran.places, ran.state.len()]
 }
 
 /// Adds a tape with the slices that are lent to it; `zeros` is how many places of work are zero

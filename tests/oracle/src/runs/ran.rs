@@ -4,7 +4,8 @@
 //! 01's rule; there the state is what the original's `apply` makes of them, and
 //! its covariance is asserted to be that of the original's run within 1e-9.
 
-use crate::compiled::answer::{answer, Compiled, PLACES};
+use crate::compiled::answer::{answer, Compiled};
+use crate::layout::{table, OP_PLACES};
 use crate::list::List;
 use crate::run::run;
 use crate::state_lists::machine::Machine;
@@ -53,7 +54,7 @@ impl Ran {
 
     /// The state, for queries.
     pub fn machine(&self, n: usize) -> Machine {
-        let modes = self.compiled.tables[2].iter().map(|&k| k as u16).collect();
+        let modes = self.compiled.tables[table::MODES].iter().map(|&k| k as u16).collect();
         Machine::on(n, self.state.clone(), modes)
     }
 }
@@ -62,7 +63,7 @@ impl Ran {
 fn evolved(n: usize, compiled: &Compiled) -> Vec<f64> {
     let (m, d) = state_text::parts(&GaussianState::vacuum(n));
     let mut machine = Machine::on(n, [m, d].concat(), (0..n as u16).collect());
-    for op in compiled.ops.chunks(PLACES) {
+    for op in compiled.ops.chunks(OP_PLACES) {
         assert_eq!(machine.step(op), 0, "an operation that is refused");
     }
     machine.slice().to_vec()

@@ -11,6 +11,7 @@ use super::{add_run, TOL};
 use crate::answer::Answer;
 use crate::bits::word;
 use crate::families;
+use crate::layout::{covariance_bytes, index_words};
 use crate::list::{List, DROP, RELABEL, REORDER};
 use crate::query::Query;
 use crate::records::Records;
@@ -86,7 +87,7 @@ fn accepts(list: &List) -> bool {
         Gate::ISwap(a, b) | Gate::ISwapdg(a, b) => a.abs_diff(b) == 1,
         _ => true,
     };
-    list.limit >= 32 * (list.n * list.n) as u64 && list.gates.iter().all(plain)
+    list.limit >= covariance_bytes(list.n) && list.gates.iter().all(plain)
 }
 
 /// Whether an answer that is given is the register's.
@@ -97,7 +98,7 @@ fn gives(register: &Register, query: &Query, asked: &Asked) -> bool {
     match register.answer(query) {
         Answer::Value(x) => asked.answer[2] == word(x),
         Answer::Shots(shots) => {
-            let words = shots.iter().flat_map(|&x| [x as u64, (x >> 64) as u64]);
+            let words = shots.iter().flat_map(|&x| index_words(x));
             words.zip(&asked.output).all(|(a, b)| a == *b)
         }
         Answer::Refused(..) => false,

@@ -6,6 +6,7 @@ use super::ran::Ran;
 use super::{add_run, TOL};
 use crate::check::Counts;
 use crate::families::pieces::xx;
+use crate::layout::covariance_bytes;
 use crate::list::{List, RELABEL, REORDER};
 use crate::query::Query;
 use crate::records::Records;
@@ -100,7 +101,7 @@ fn of(rng: &mut Rng, n: usize, flags: u8, gates: Vec<Gate>) -> List {
     queries.push(Query::Marginal(vec![n - 1, 0], vec![rng.chance(1, 2), rng.chance(1, 2)]));
     queries.push(Query::Probability(u128::from(rng.word())));
     queries.push(Query::Sample(1, (0..n).map(|_| rng.unit()).collect()));
-    List { n, flags, tol: TOL, limit: 32 * (n * n) as u64, gates, queries }
+    List { n, flags, tol: TOL, limit: covariance_bytes(n), gates, queries }
 }
 
 /// Rotations and exchanges of neighbours with flips between them; every third tape turns by any

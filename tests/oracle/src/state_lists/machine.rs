@@ -4,6 +4,10 @@
 
 use super::tag;
 use crate::bits::word;
+use crate::layout::{
+    covariance_places, index_of, index_words, kind, query_places, state_places, INDEX_WORDS,
+    MAX_QUBITS, MAX_SHOTS, OP_PLACES,
+};
 use crate::records::Records;
 use original::access::detect::{GaussOp, InteractionPhase};
 use original::access::state::{access, GaussianState};
@@ -13,8 +17,8 @@ use rand::Draws;
 pub const SLICE: usize = 288;
 /// Entries of the largest list of qubits.
 pub const QUBITS: usize = 8;
-/// Places of an operation slice; an operation has 18.
-pub const OP: usize = 20;
+/// Places of an operation slice, two more than an operation has.
+pub const OP: usize = OP_PLACES + 2;
 /// Draws of the largest sample.
 pub const DRAWS: usize = 32;
 /// Words of the largest output.
@@ -82,13 +86,13 @@ impl Machine {
         let table = self.modes.get(..n.min(usize::from(u16::MAX)));
         let each_once =
             |t: &[u16]| (0..n).all(|k| t.iter().filter(|&&x| usize::from(x) == k).count() == 1);
-        n <= 128 && self.slice.len() >= 4 * n * n + 2 * n && table.is_some_and(each_once)
+        n <= MAX_QUBITS && self.slice.len() >= state_places(n) && table.is_some_and(each_once)
     }
 
     /// The original's state.
     fn original(&self) -> GaussianState {
-        let (n, dim) = (self.n, 2 * self.n);
-        let (m, d) = self.slice[..dim * dim + dim].split_at(dim * dim);
+        let n = self.n;
+        let (m, d) = self.slice[..state_places(n)].split_at(covariance_places(n));
         let modes = self.modes[..n].iter().map(|&k| usize::from(k)).collect();
         access::state(n, m.to_vec(), d.to_vec(), modes)
     }
@@ -100,14 +104,16 @@ impl Machine {
         };
         let q = |i: usize| op[2 + i];
         match op {
-            _ if op.len() < 18 => None,
-            [1.0, mode, ..] => modes(*mode, self.n)
+            _ if op.len() < OP_PLACES => None,
+            [kind::ONE, mode, ..] => modes(*mode, self.n)
                 .map(|mode| GaussOp::One { mode, q: [[q(0), q(1)], [q(2), q(3)]] }),
-            [2.0, mode, ..] => modes(*mode, self.n.saturating_sub(1)).map(|mode| GaussOp::Two {
-                mode,
-                q: std::array::from_fn(|i| std::array::from_fn(|j| q(4 * i + j))),
-            }),
-            [3.0, ..] => Some(GaussOp::Interaction(InteractionPhase {
+            [kind::TWO, mode, ..] => {
+                modes(*mode, self.n.saturating_sub(1)).map(|mode| GaussOp::Two {
+                    mode,
+                    q: std::array::from_fn(|i| std::array::from_fn(|j| q(4 * i + j))),
+                })
+            }
+            [kind::INTERACTION, ..] => Some(GaussOp::Interaction(InteractionPhase {
                 block: 0,
                 wires: (0, 1),
                 modes: (0, 1),
@@ -246,8 +252,8 @@ impl Machine {
     }
 
     pub fn probability_words(&self, low: u64, high: u64, work: usize) -> Vec<u64> {
-        let x = u128::from(low) | u128::from(high) << 64;
-        let value = || self.original().probability(x).expect("at most 128 qubits");
+        let value =
+            || self.original().probability(index_of(low, high)).expect("at most 128 qubits");
         match self.state_ok() {
             false => self.worked(work, None, || refused(16, 0)),
             true => self.worked(work, Some(2 * self.n), || (0, 0, value())),
@@ -277,7 +283,7 @@ impl Machine {
         let bad = || draws[..used].iter().position(|x| !(*x >= 0.0 && *x < 1.0));
         let number = if !self.state_ok() {
             16
-        } else if shots > 65_536 || draws.len() < used || out < 2 * shots {
+        } else if shots > MAX_SHOTS || draws.len() < used || out < INDEX_WORDS * shots {
             21
         } else if bad().is_some() {
             22
@@ -289,8 +295,9 @@ impl Machine {
         let answer = self.worked(work, dim, || (number, place as u64, 0.0));
         let mut output = vec![OLD; out];
         if answer[2] == 0 {
-            for (i, x) in self.shots(shots, &draws[..used]).into_iter().enumerate() {
-                (output[2 * i], output[2 * i + 1]) = (x as u64, (x >> 64) as u64);
+            let shots = self.shots(shots, &draws[..used]);
+            for (words, x) in output.chunks_exact_mut(INDEX_WORDS).zip(shots) {
+                words.copy_from_slice(&index_words(x));
             }
         }
         (answer, output)
@@ -309,8 +316,8 @@ impl Machine {
             (0..j).for_each(|i| self.zz(i, j, 16));
         }
         let all: Vec<usize> = (0..n).collect();
-        self.product(&all, 4 * n * n);
-        self.probability(0, 0, 4 * n * n);
-        self.probability(5, 0, 4 * n * n);
+        self.product(&all, query_places(n));
+        self.probability(0, 0, query_places(n));
+        self.probability(5, 0, query_places(n));
     }
 }

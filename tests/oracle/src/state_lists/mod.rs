@@ -7,6 +7,7 @@ mod queries;
 mod samples;
 mod signs;
 
+use crate::layout::{covariance_places, OP_PLACES};
 use crate::rng::Rng;
 use machine::Machine;
 
@@ -78,7 +79,7 @@ fn float(rng: &mut Rng, kind: Floats) -> f64 {
 
 /// A matrix and signs, not antisymmetric; the signs are 1 and -1, or of any kind.
 fn any_slice(rng: &mut Rng, n: usize, kind: Floats, signs: bool) -> Vec<f64> {
-    let mut out: Vec<f64> = (0..4 * n * n).map(|_| float(rng, kind)).collect();
+    let mut out: Vec<f64> = (0..covariance_places(n)).map(|_| float(rng, kind)).collect();
     out.extend((0..2 * n).map(|_| if signs { rng.pick(&[1.0, -1.0]) } else { float(rng, kind) }));
     out
 }
@@ -92,6 +93,6 @@ fn any_modes(rng: &mut Rng, n: usize) -> Vec<u16> {
 fn op(kind: f64, mode: f64, numbers: &[f64]) -> Vec<f64> {
     let mut out = vec![kind, mode];
     out.extend(numbers);
-    out.resize(18, 0.0);
+    out.resize(OP_PLACES, 0.0);
     out
 }

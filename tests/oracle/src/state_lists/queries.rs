@@ -2,6 +2,7 @@
 
 use super::machine::Machine;
 use super::{any_modes, any_slice, Floats, FLOATS};
+use crate::layout::query_places;
 use crate::rng::Rng;
 
 pub fn add(machine: &mut Machine) {
@@ -27,7 +28,7 @@ fn arbitrary(machine: &mut Machine, rng: &mut Rng, n: usize, kind: Floats) {
     let signs = !rng.chance(1, 4);
     let slice = any_slice(rng, n, kind, signs);
     machine.state(n, &slice, &any_modes(rng, n));
-    let full = 4 * n * n;
+    let full = query_places(n);
     machine.z(rng.below(n));
     machine.zz(rng.below(n), rng.below(n), 16);
     let all = rng.permutation(n);

@@ -3,6 +3,7 @@
 use super::machine::Machine;
 use super::{any_modes, any_slice, float, op, Floats, FLOATS};
 use crate::families::pieces;
+use crate::layout::{kind, query_places, INDEX_WORDS};
 use crate::rng::Rng;
 use original::access::detect::access as detect;
 
@@ -31,7 +32,7 @@ fn arbitrary(machine: &mut Machine, rng: &mut Rng, n: usize, kind: Floats) {
         false => rng.unit(),
     };
     let draws: Vec<f64> = (0..n * shots).map(|_| draw()).collect();
-    machine.sample(shots, &draws, 2 * shots + 1, 4 * n * n + 2);
+    machine.sample(shots, &draws, INDEX_WORDS * shots + 1, query_places(n) + 2);
     thresholds(machine, rng, n);
 }
 
@@ -40,7 +41,7 @@ fn turned_vacuum(machine: &mut Machine, rng: &mut Rng) {
     machine.vacuum(3);
     for mode in [0.0, 1.0, 0.0] {
         let u = pieces::matrix(&pieces::xx(0, 1, rng.angle()));
-        machine.apply(&op(2.0, mode, detect::majorana_map2(&u).0.as_flattened()));
+        machine.apply(&op(kind::TWO, mode, detect::majorana_map2(&u).0.as_flattened()));
     }
 }
 
@@ -56,7 +57,8 @@ fn thresholds(machine: &mut Machine, rng: &mut Rng, n: usize) {
             draws.extend(&shot);
         }
     }
-    machine.sample(2 * modes, &draws, 4 * modes, 4 * n * n);
+    let shots = 2 * modes;
+    machine.sample(shots, &draws, INDEX_WORDS * shots, query_places(n));
 }
 
 /// The least draw of mode k for which the shot is another than for 0.0; the largest draw if there is none.

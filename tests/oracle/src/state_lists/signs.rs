@@ -4,6 +4,7 @@
 use super::machine::Machine;
 use super::op;
 use crate::families::pieces;
+use crate::layout::kind;
 use original::access::detect::access as detect;
 use original::access::detect::GaussOp;
 use original::access::state::{access, GaussianState};
@@ -81,8 +82,8 @@ fn pair(gates: &[Gate]) -> Map {
 
 fn places(mode: usize, map: Map) -> Vec<f64> {
     match map {
-        Map::One(q) => op(1.0, mode as f64, q.as_flattened()),
-        Map::Two(q) => op(2.0, mode as f64, q.as_flattened()),
+        Map::One(q) => op(kind::ONE, mode as f64, q.as_flattened()),
+        Map::Two(q) => op(kind::TWO, mode as f64, q.as_flattened()),
     }
 }
 
