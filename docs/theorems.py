@@ -18,7 +18,7 @@ BOXES = {
     "run": (168, 150, 286, "run", ["answer, work, marks, ops, state:", "ran, ranWork, .., ranState"], "gaussian/src/engine.rt, gaussian/specs/Run.antt"),
     "asks": (464, 150, 138, "queries", ["ensures, each"], "queries/src/*.rt"),
     "report": (20, 260, 286, "report, work, operations", ["detect, lend, emit_all: ensures; asked, programOf"], "detect/src/*.rt, detect/specs/Questions.antt"),
-    "evolve": (316, 260, 138, "evolve", ["program-fits"], "evolve/proofs/Programs.antt"),
+    "evolve": (316, 260, 138, "evolve", ["evolved-written"], "evolve/proofs/Evolving.antt"),
     "pfaffian": (464, 260, 138, "Pfaffian, shot", ["ensures, each"], "pfaffian/src/*.rt"),
     "order": (20, 355, 138, "order", ["order-permutes,", "chosen-inverse,", "rank-mode"], "order/proofs/*.antt"),
     "resolve": (168, 355, 138, "items", ["gates-fused, tried-is,", "resolved-wired"], "resolve/proofs/*.antt"),
