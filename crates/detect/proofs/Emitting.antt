@@ -10,6 +10,7 @@ use lib.ListN.{length, length-append}
 use lib.Seq.{paste}
 use lib.Ieee.{Float, le}
 use borrow.Author.Tests.{ne-eqb}
+use Rattle.laws.specs.Bounds.{opPlaces}
 use Rattle.laws.proofs.Cases.{eq-or-ne}
 use Rattle.real.specs.declared.maps.Map2.{Map2}
 use Rattle.gate.specs.declared.matrix.Mat4.{Mat4}
@@ -181,10 +182,10 @@ module _ (xs : List Float) (us : List ℕ) (pos : ℕ → ℕ) where
 -- ---- rotations
 
 module _ {q : Map2} (k : ℕ) (x : Rotation) (e : x ≡ By q) where
-  pub by-long : length (allPlaces (rotated k x)) ≡ 18
+  pub by-long : length (allPlaces (rotated k x)) ≡ opPlaces
   by-long = rw e (one-long (one k q))
 
-  pub put-by : (p : ℕ) (l m y : List Float) → y ≡ onePlaces k q → m ≡ paste l p y 18 → Put (rotated k x) p l m (p + 18)
+  pub put-by : (p : ℕ) (l m y : List Float) → y ≡ onePlaces k q → m ≡ paste l p y opPlaces → Put (rotated k x) p l m (p + opPlaces)
   unfolding placesOf
   put-by p l m y h g = rw e (put-one p l (one k q) m y h g)
 

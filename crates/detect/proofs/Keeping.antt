@@ -54,36 +54,36 @@ held-counted xs us c ys m k n h = record {
 
 -- ---- an operation written from p on
 
-module _ (p : ℕ) (l x : List Float) (long : length x ≡ 18) (fit : p + 18 ≤ length l) where
-  paste-mid : paste l p x 18 ≡ putMid p 18 l x
+module _ (p : ℕ) (l x : List Float) (long : length x ≡ opPlaces) (fit : p + opPlaces ≤ length l) where
+  paste-mid : paste l p x opPlaces ≡ putMid p opPlaces l x
   paste-mid =
-      append-assoc (take p l) (take 18 x) (drop (p + 18) l)
-      ∙ ap (λ y. take p l ++ (y ++ drop (p + 18) l)) (take-all 18 x (omega (arith, long)))
-      ∙ ap (λ r. take p l ++ (x ++ r)) (sym (drop-drop 18 p l))
+      append-assoc (take p l) (take opPlaces x) (drop (p + opPlaces) l)
+      ∙ ap (λ y. take p l ++ (y ++ drop (p + opPlaces) l)) (take-all opPlaces x (omega (arith, long)))
+      ∙ ap (λ r. take p l ++ (x ++ r)) (sym (drop-drop opPlaces p l))
 
-  paste-size : length (paste l p x 18) ≡ length l
-  paste-size = ap length paste-mid ∙ length-put p 18 l x nan fit long
+  paste-size : length (paste l p x opPlaces) ≡ length l
+  paste-size = ap length paste-mid ∙ length-put p opPlaces l x nan fit long
 
   -- a place that it is not written to
-  paste-stays : (q : ℕ) → (q < p) ⊎ (p + 18 ≤ q) → getD (paste l p x 18) q nan ≡ getD l q nan
-  paste-stays q (inl h) = ap (λ y. getD y q nan) paste-mid ∙ put-before p 18 l x nan fit long q h
-  paste-stays q (inr h) = ap (λ y. getD y q nan) paste-mid ∙ put-after p 18 l x nan fit long q h
+  paste-stays : (q : ℕ) → (q < p) ⊎ (p + opPlaces ≤ q) → getD (paste l p x opPlaces) q nan ≡ getD l q nan
+  paste-stays q (inl h) = ap (λ y. getD y q nan) paste-mid ∙ put-before p opPlaces l x nan fit long q h
+  paste-stays q (inr h) = ap (λ y. getD y q nan) paste-mid ∙ put-after p opPlaces l x nan fit long q h
 
   -- it is there
-  paste-there : take 18 (drop p (paste l p x 18)) ≡ x
+  paste-there : take opPlaces (drop p (paste l p x opPlaces)) ≡ x
   paste-there =
-      ap (λ y. take 18 (drop p y)) paste-mid
-      ∙ ap (take 18) (drop-at (take p l) (x ++ drop 18 (drop p l)) p (length-take-le p l (omega arith)))
-      ∙ take-at x (drop 18 (drop p l)) 18 long
+      ap (λ y. take opPlaces (drop p y)) paste-mid
+      ∙ ap (take opPlaces) (drop-at (take p l) (x ++ drop opPlaces (drop p l)) p (length-take-le p l (omega arith)))
+      ∙ take-at x (drop opPlaces (drop p l)) opPlaces long
 
--- 18 places that stay
-window-stays : (a : ℕ) (l m : List Float) → length m ≡ length l → a + 18 ≤ length l → ((q : ℕ) → a ≤ q → q < a + 18 → getD m q nan ≡ getD l q nan)
-    → take 18 (drop a m) ≡ take 18 (drop a l)
+-- the places of an operation stay
+window-stays : (a : ℕ) (l m : List Float) → length m ≡ length l → a + opPlaces ≤ length l → ((q : ℕ) → a ≤ q → q < a + opPlaces → getD m q nan ≡ getD l q nan)
+    → take opPlaces (drop a m) ≡ take opPlaces (drop a l)
 window-stays a l m e fit h =
-    let long : (k : List Float) → a + 18 ≤ length k → length (take 18 (drop a k)) ≡ 18 = λ k f. length-take-le 18 (drop a k) (omega (arith, length-drop a k)) in
+    let long : (k : List Float) → a + opPlaces ≤ length k → length (take opPlaces (drop a k)) ≡ opPlaces = λ k f. length-take-le opPlaces (drop a k) (omega (arith, length-drop a k)) in
     let lm = long m (omega (arith, e)) in
-    ext-getD nan (take 18 (drop a m)) (take 18 (drop a l)) (lm ∙ sym (long l fit))
-    (λ i b. part-at a 18 m nan i (omega (arith, lm)) ∙ h (a + i) (omega arith) (omega (arith, lm)) ∙ sym (part-at a 18 l nan i (omega (arith, lm))))
+    ext-getD nan (take opPlaces (drop a m)) (take opPlaces (drop a l)) (lm ∙ sym (long l fit))
+    (λ i b. part-at a opPlaces m nan i (omega (arith, lm)) ∙ h (a + i) (omega arith) (omega (arith, lm)) ∙ sym (part-at a opPlaces l nan i (omega (arith, lm))))
 
 -- ---- one record more
 
@@ -150,7 +150,7 @@ module _ (xs : List Float) (us : List ℕ) where
         op = matchPlaces first second (matrix4Of ys i)
 
         abbrev new : List Float
-        new = paste ys (keptPlace i) op 18
+        new = paste ys (keptPlace i) op opPlaces
 
         beside-written : besideOf first second ≡ true → recordKept ys us i ≡ new
         unfolding twoKept matchKept
@@ -170,7 +170,7 @@ module _ (xs : List Float) (us : List ℕ) where
         kept-more : Kept ys us i → Kept new us (i + 1)
         kept-more h j l k = by (eq-or-ne j i)
           where
-            by : (j ≡ i) ⊎ (j ≢ i) → take 18 (drop (keptPlace j) new) ≡ matchPlaces (modesIn us (markAt us j aColumn)) (modesIn us (markAt us j bColumn)) (matrix4Of new j)
+            by : (j ≡ i) ⊎ (j ≢ i) → take opPlaces (drop (keptPlace j) new) ≡ matchPlaces (modesIn us (markAt us j aColumn)) (modesIn us (markAt us j bColumn)) (matrix4Of new j)
             by (inl x) = rw (x, matrix-stays ys new us alike i) (paste-there (keptPlace i) ys op refl (omega arith))
             by (inr x) =
                 rw (matrix-stays ys new us alike j)

@@ -1,4 +1,4 @@
--- Operations in a slice: each has 18 places, and what is written one after the other is written at once. Assumes nothing.
+-- Operations in a slice: each has its places, and what is written one after the other is written at once. Assumes nothing.
 use mathlib.Core.Path.{_≡_, refl, sym, ap, ap₂, _∙_}
 use mathlib.Core.List.{List, [], _∷_, _++_, append-assoc, append-nil}
 use Prim.Native.Nat.{ℕ, _+_, _*_, _≤_}
@@ -7,17 +7,18 @@ use native.Mathlib.Omega.{arith}
 use lib.ListN.{length, take, drop, length-append, length-drop}
 use lib.Seq.{length-take-le, take-all, take-at, drop-append-add, drop-drop, paste, paste-zero}
 use lib.Ieee.{Float}
+use Rattle.laws.specs.Bounds.{opPlaces}
 use Rattle.detect.specs.Operation.{Operation, one, two, interaction, placesOf, allPlaces, placed, Put}
 
--- ---- 18 places
+-- ---- its places
 
-pub length-places : (o : Operation) → length (placesOf o) ≡ 18
+pub length-places : (o : Operation) → length (placesOf o) ≡ opPlaces
 unfolding placesOf
 length-places (one k q) = refl
 length-places (two k q) = refl
 length-places (interaction k b j w) = refl
 
-pub length-all : (os : List Operation) → length (allPlaces os) ≡ 18 * length os
+pub length-all : (os : List Operation) → length (allPlaces os) ≡ opPlaces * length os
 unfolding allPlaces
 length-all [] = refl
 length-all (o ∷ os) = omega (arith, length-append (placesOf o) (allPlaces os), length-places o, length-all os)
@@ -50,8 +51,8 @@ module _ (p : ℕ) (l : List Float) where
         ∙ ap (λ k. drop k l) (add-assoc p (length ys) (length zs) ∙ ap (λ k. p + k) (sym (length-append ys zs))) in
         ap₂ (λ a b. a ++ zs ++ b) first rest ∙ ap (λ a. a ++ drop (p + length (ys ++ zs)) l) (append-assoc (take p l) ys zs)
 
-paste-placed : (l x : List Float) (p : ℕ) → length x ≡ 18 → paste l p x 18 ≡ placed p x l
-paste-placed l x p e = ap₂ (λ a k. take p l ++ a ++ drop (p + k) l) (take-all 18 x (omega (arith, e))) (sym e)
+paste-placed : (l x : List Float) (p : ℕ) → length x ≡ opPlaces → paste l p x opPlaces ≡ placed p x l
+paste-placed l x p e = ap₂ (λ a k. take p l ++ a ++ drop (p + k) l) (take-all opPlaces x (omega (arith, e))) (sym e)
 
 -- ---- operations
 
@@ -60,10 +61,10 @@ module _ (p : ℕ) (l : List Float) where
   unfolding allPlaces
   put-none = record { is = sym (placed-none p l); next = sym (add-zero p) }
 
-  pub put-one : (o : Operation) (m x : List Float) → x ≡ placesOf o → m ≡ paste l p x 18 → Put (o ∷ []) p l m (p + 18)
+  pub put-one : (o : Operation) (m x : List Float) → x ≡ placesOf o → m ≡ paste l p x opPlaces → Put (o ∷ []) p l m (p + opPlaces)
   unfolding allPlaces
   put-one o m x e h = record {
-    is = h ∙ ap (λ x. paste l p x 18) e ∙ paste-placed l (placesOf o) p (length-places o) ∙ ap (λ x. placed p x l) (sym (append-nil (placesOf o)));
+    is = h ∙ ap (λ x. paste l p x opPlaces) e ∙ paste-placed l (placesOf o) p (length-places o) ∙ ap (λ x. placed p x l) (sym (append-nil (placesOf o)));
     next = ap (λ k. p + k) (sym (length-places o) ∙ ap length (sym (append-nil (placesOf o))));
   }
 
@@ -83,7 +84,7 @@ module _ (p : ℕ) (l : List Float) where
 
 -- ---- room
 
-pub one-long : (o : Operation) → length (allPlaces (o ∷ [])) ≡ 18
+pub one-long : (o : Operation) → length (allPlaces (o ∷ [])) ≡ opPlaces
 one-long o = length-all (o ∷ [])
 
 module _ (p : ℕ) (l : List Float) (a b : List Operation) (room : p + length (allPlaces (a ++ b)) ≤ length l) where

@@ -2,8 +2,9 @@
 // counts and slots beside these, agree with those of the original: matrices and residuals bit for
 // bit, except on angled tapes, of which the list has kinds and wires only.
 ghost use mathlib.Core.Path.{_≡_};
-ghost use Prim.Native.Nat.{_+_, _*_, _≤_};
+ghost use Prim.Native.Nat.{_+_, _≤_};
 ghost use lib.ListN.{length};
+ghost use Rattle.work.specs.Rows.{Floats, FloatsAt};
 ghost use Rattle.work.specs.Marks.{Records};
 ghost use Rattle.fuse.specs.Layout.{Space};
 ghost use Rattle.fuse.specs.Slotted.{Gates};
@@ -51,7 +52,7 @@ fn head_agrees(u: &[u32], k: usize, kind: u32, s: &[u8]) -> bool
 
 // What is compared of item k; nothing where the list does not have it.
 fn item_agrees(what: u64, w: &[f64], u: &[u32], k: usize, kind: u32, s: &[u8]) -> Tally
-    requires { ⌜ (64 * k + 64 ≤ length (now w)) × Records (now u) (k + 1) ⌝ }
+    requires { ⌜ FloatsAt (now w) k × Records (now u) (k + 1) ⌝ }
 {
     if what == KINDS {
         return stored::tally_of(head_agrees(u, k, kind, s));
@@ -93,7 +94,7 @@ fn size_of(kind: u32, exact: bool) -> usize
 
 // The items of m records beside the stored ones, which must then be at their end.
 fn items_agree(what: u64, exact: bool, w: &[f64], u: &[u32], m: usize, s: &[u8]) -> Tally
-    requires { ⌜ (64 * m ≤ length (now w)) × Records (now u) m ⌝ }
+    requires { ⌜ Floats (now w) m × Records (now u) m ⌝ }
 {
     let mut t = stored::nothing();
     let mut at: usize = 0;

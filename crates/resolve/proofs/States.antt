@@ -293,7 +293,7 @@ opaque-item xs us i a b room = rw (item-kind us i 9 a b room)
 module _ (xs : List Float) (i : ℕ) (c : Class2) where
   pub item-floats : FloatsOf i xs (itemFloats xs i c)
   unfolding itemFloats
-  item-floats = floats-set i xs (putMatrix4Of xs i (c .v)) 32 (residualOf (c .kind)) (omega arith) (floats-put4 i xs (c .v))
+  item-floats = floats-set i xs (putMatrix4Of xs i (c .v)) residualPlace (residualOf (c .kind)) (omega arith) (floats-put4 i xs (c .v))
 
   module _ (room : FloatsAt xs i) where
     item-residual : residualAt (itemFloats xs i c) i ≡ residualOf (c .kind)

@@ -5,6 +5,7 @@ use Prim.Native.Nat.{_+_}
 use native.Mathlib.Omega.{arith}
 use borrow.Author.Needs.{needs}
 use lib.ListN.{length, take, drop}
+use Rattle.laws.specs.Bounds.{opPlaces}
 use Rattle.work.specs.Marks.{markAt}
 use Rattle.majorana.specs.Majorana.{majoranaMap1Of}
 use Rattle.fuse.specs.Layout.{matrix2Of}
@@ -49,7 +50,7 @@ returns-2 c =
     let o = matchOf (a .w .now) (a .u .now) (modesIn (a .u .now)) (a .i) in
     rw (record-match (a .w .now) (a .u .now) (modesIn (a .u .now)) (a .block) (a .i) e)
     (put-one (a .p) (a .ops .now) o (f .copy .last .1 .1 .0) (placesOf o) refl
-    (f .copy .ensures ∙ ap (λ x. take (a .p) (a .ops .now) ++ x ++ drop (a .p + 18) (a .ops .now)) (s .pre .0 .1 e)))
+    (f .copy .ensures ∙ ap (λ x. take (a .p) (a .ops .now) ++ x ++ drop (a .p + opPlaces) (a .ops .now)) (s .pre .0 .1 e)))
 
 mark-requires-3 : tie.Need-mark-requires-3
 mark-requires-3 c κs =

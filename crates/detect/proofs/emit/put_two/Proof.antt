@@ -5,6 +5,7 @@ use Prim.Native.Nat.{_+_}
 use native.Mathlib.Omega.{arith}
 use borrow.Author.Needs.{needs}
 use lib.ListN.{length}
+use Rattle.laws.specs.Bounds.{opPlaces}
 use Rattle.classify.specs.Diagonal.{interactionOf, unitOf}
 use Rattle.detect.specs.Operation.{interaction, placesOf}
 use Rattle.detect.specs.Emit.{rotationsOf}
@@ -69,7 +70,7 @@ returns-2 c =
     let w = interaction (a .i) (a .block) (a .j) (unitOf (interactionOf (a .v))) in
     let e = two-interaction (a .block) (a .kind) (a .i) (a .j) (a .v) (k .if2 .taken) in
     rw e
-    (put-both (a .p) (a .ops .now) (rotationsOf (a .i) (a .j) (a .v)) (w ∷ []) (rw e at (s .pre .1)) (f .put-rotations2 .last .0) (g .put .last .0) (f .put-rotations2 .result) (f .put-rotations2 .result + 18) (f .put-rotations2 .ensures)
+    (put-both (a .p) (a .ops .now) (rotationsOf (a .i) (a .j) (a .v)) (w ∷ []) (rw e at (s .pre .1)) (f .put-rotations2 .last .0) (g .put .last .0) (f .put-rotations2 .result) (f .put-rotations2 .result + opPlaces) (f .put-rotations2 .ensures)
     (put-one (f .put-rotations2 .result) (f .put-rotations2 .last .0) w (g .put .last .0) (i .interaction-places .result) (i .interaction-places .ensures ∙ rw (i .before .unit .ensures, i .before .before .interaction .ensures)) (g .put .ensures)))
 
 returns-3 : tie.Need-returns-3

@@ -6,14 +6,15 @@ use native.Mathlib.Numerals.{add-one}
 use native.Mathlib.Omega.{arith}
 use lib.ListN.{length, drop, length-set, length-drop}
 use lib.Seq.{paste, paste-zero, paste-suc, getD-drop}
+use Rattle.laws.specs.Bounds.{opPlaces}
 use Rattle.detect.proofs.places.copy.Statement.{statement}
 use Rattle.detect.proofs.places.copy.Tie as tie
 
 abbrev Inv-loop : tie.InvT-loop
-Inv-loop x a l₀ p k₀ l k = (k ≤ 18) × (l ≡ paste l₀ p (drop a x) k) × (length l ≡ length l₀)
+Inv-loop x a l₀ p k₀ l k = (k ≤ opPlaces) × (l ≡ paste l₀ p (drop a x) k) × (length l ≡ length l₀)
 
 abbrev μ-loop : tie.MeasureT-loop
-μ-loop x a l₀ p k₀ l k = 18 - k
+μ-loop x a l₀ p k₀ l k = opPlaces - k
 
 loop-holds : tie.Need-loop-holds Inv-loop μ-loop
 loop-holds c = (omega arith, paste-zero (c .args .l .now) (c .args .p) (drop (c .args .a) (c .args .x .now)), omega arith)
