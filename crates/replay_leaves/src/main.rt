@@ -2,6 +2,7 @@
 // proved functions compute. A record is a tag, operands and the wanted result.
 ghost use Prim.Native.Nat.{_≤_};
 use libc::STDOUT_FILENO;
+use stored::Tally;
 
 // Tags of records.
 const SQRT: u64 = 1;
@@ -32,7 +33,7 @@ const SWAP_QUBITS: u64 = 13;
 
 // How many words follow a tag; 0 for the end of the list and for a tag that is none.
 fn words(tag: u64) -> usize
-    ensures { λ r. ⌜ r ≤ 96 ⌝ }
+    ensures { λ r. ⌜ r ≤ 65536 ⌝ }
 {
     match tag {
         1 | 2 => 2,
@@ -154,80 +155,64 @@ fn agrees(tag: u64, s: &[u8]) -> bool {
     large_agrees(tag, s)
 }
 
-fn one(x: bool) -> u64
-    ensures { λ r. ⌜ r ≤ 1 ⌝ }
-{
-    if x { 1 } else { 0 }
+// What a walk over the list found of a tag, and where it ended.
+struct Walked {
+    tally: Tally,
+    at: usize,
 }
 
-// How many records of a tag there are, and how many agree; and whether the list has its end.
-pub struct Tally {
-    right: u64,
-    all: u64,
-    whole: bool,
+fn walk(s: &[u8], wanted: u64) -> Walked {
+    let mut tally = stored::nothing();
+    let mut at = 0;
+    let mut k: usize = 0;
+    while k < stored::MAX_RECORDS {
+        let r = stored::record_at(s, at, words(stored::tag_at(s, at)));
+        let from = r.from;
+        let to = r.to;
+        if r.tag == 0 {
+            return Walked { tally, at };
+        }
+        if r.tag == wanted {
+            tally = stored::plus(tally, stored::tally_of(agrees(wanted, &s[from..to])));
+        }
+        at = to;
+        k += 1;
+    }
+    Walked { tally, at }
 }
 
-fn count(s: &[u8], wanted: u64) -> Tally {
-    let mut right: u64 = 0;
-    let mut all: u64 = 0;
-    let mut at: usize = 0;
-    while 8 <= s.len() - at {
-        let tag = num::u64_at(s, at);
-        let size = 8 * words(tag);
-        at += 8;
-        if size == 0 {
-            let whole = tag == 0 && at == s.len();
-            return Tally { right, all, whole };
-        }
-        if s.len() - at < size {
-            return Tally {
-                right,
-                all,
-                whole: false,
-            };
-        }
-        let here = tag == wanted;
-        all += one(here);
-        right += one(here && agrees(tag, &s[at..at + size]));
-        at += size;
+// Whether the list has its end: the tag 0, and nothing after it.
+fn is_whole(s: &[u8]) -> bool {
+    let w = walk(s, 0);
+    if s.len() < 8 {
+        return false;
     }
-    Tally {
-        right,
-        all,
-        whole: false,
-    }
+    w.at == s.len() - 8 && stored::tag_at(s, w.at) == 0
 }
 
 // A line for a tag that the list has.
 fn print_line(s: &[u8], tag: u64, name: &[u8]) {
-    let t = count(s, tag);
-    if t.all == 0 {
-        return;
-    }
-    io::write_all(STDOUT_FILENO, name);
-    io::print_decimal(STDOUT_FILENO, t.right);
-    io::write_all(STDOUT_FILENO, b" of ");
-    io::print_decimal(STDOUT_FILENO, t.all);
-    io::write_all(STDOUT_FILENO, b"\n");
+    let w = walk(s, tag);
+    stored::print_tally(name, w.tally);
 }
 
 fn print_numbers(s: &[u8]) {
-    print_line(s, SQRT, b"sqrt ");
-    print_line(s, ABS, b"abs ");
-    print_line(s, MAX, b"max ");
-    print_line(s, MIN, b"min ");
-    print_line(s, CLAMP, b"clamp ");
+    print_line(s, SQRT, b"sqrt");
+    print_line(s, ABS, b"abs");
+    print_line(s, MAX, b"max");
+    print_line(s, MIN, b"min");
+    print_line(s, CLAMP, b"clamp");
 }
 
 fn print_matrices(s: &[u8]) {
-    print_line(s, TABLE_1Q, b"matrix_1q ");
-    print_line(s, TABLE_2Q, b"matrix_2q ");
-    print_line(s, MUL2, b"mul2 ");
-    print_line(s, DAG2, b"dag2 ");
-    print_line(s, KRON, b"kron ");
-    print_line(s, MUL4, b"mul4 ");
-    print_line(s, DAG4, b"dag4 ");
-    print_line(s, SWAP_QUBITS, b"mat4_swap_qubits ");
+    print_line(s, TABLE_1Q, b"matrix_1q");
+    print_line(s, TABLE_2Q, b"matrix_2q");
+    print_line(s, MUL2, b"mul2");
+    print_line(s, DAG2, b"dag2");
+    print_line(s, KRON, b"kron");
+    print_line(s, MUL4, b"mul4");
+    print_line(s, DAG4, b"dag4");
+    print_line(s, SWAP_QUBITS, b"mat4_swap_qubits");
 }
 
 fn replay(path: &[u8]) {
@@ -236,7 +221,7 @@ fn replay(path: &[u8]) {
     let s = &space[..n];
     print_numbers(s);
     print_matrices(s);
-    if count(s, 0).whole {
+    if is_whole(s) {
         io::write_all(STDOUT_FILENO, b"end\n");
     }
 }
