@@ -9,6 +9,7 @@ tests/all.sh [ORIGINAL_DIR]
 Runs the tests beside the proofs (.ci/run has those), one after the other, and goes on where one fails:
   format         whether every file stands as its formatter writes it: tests/format.sh
   specs          what a reader must believe: tests/specs.py
+  quotes         every sentence quoted in specs/ stands in docs/FORMAT.md: tests/quotes.py
   host           the tool and the wrapper of the library: tests/host.sh
   abi            the library from C and from Rust: tests/abi/run.sh
 and beside the original, if ORIGINAL_DIR names the folder that holds its src/gate.rs:
@@ -74,6 +75,7 @@ beside() {
 row part verdict seconds
 part format tests/format.sh
 part specs tests/specs.py
+part quotes tests/quotes.py
 part host tests/host.sh
 part abi tests/abi/run.sh
 beside oracle tests/oracle/check.sh
