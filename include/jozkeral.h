@@ -64,8 +64,8 @@ extern "C" {
 #define JOZKERAL_LIMIT 14        /* Are the bytes of the covariance matrix, 8 for each of its places, at most the tape's limit? */
 #define JOZKERAL_STATE 15        /* Has state JOZKERAL_STATE_PLACES(n)? */
 /* The calls on a state: */
-#define JOZKERAL_BAD_STATE 16    /* Is n at most JOZKERAL_MAX_QUBITS, has state its places, and are the first n modes 0 to n - 1, each once? */
-#define JOZKERAL_OPERATION 17    /* Has op JOZKERAL_OP_PLACES, a kind 1, 2 or 3, and for 1 and 2 a whole mode below n, for 2 the next one too? */
+#define JOZKERAL_BAD_STATE 16    /* Is n at most JOZKERAL_MAX_QUBITS, has state its places, are the first n modes 0 to n - 1, each once? */
+#define JOZKERAL_OPERATION 17    /* Has op JOZKERAL_OP_PLACES, a kind 1 to 3, for 1 and 2 a whole mode below n, for 2 the next one too? */
 #define JOZKERAL_BITS 18         /* Are there as many bits as qubits, each 0 or 1? */
 #define JOZKERAL_LISTED 19       /* Is this listed qubit below n? */
 #define JOZKERAL_QUERY_WORK 20   /* Has work its places: the square of twice the number of modes that are left, for a sample (2n)^2? */
@@ -81,23 +81,28 @@ extern "C" {
 #define JOZKERAL_MAX_SHOTS 65536 /* of one call: question 21 */
 
 /* ---- sizes, in elements: n qubits, g gate records on the tape ------------------------------------------------------- */
-#define JOZKERAL_HEADER_BYTES 20                                         /* the tape's header */
-#define JOZKERAL_RECORD_FLOATS 64                                        /* places of work for each gate and each qubit */
-#define JOZKERAL_RECORD_MARKS 32                                         /* places of marks for each of them */
-#define JOZKERAL_RECORD_OPS 3                                            /* operations for each of them at most */
-#define JOZKERAL_WORK_PLACES(g, n) (JOZKERAL_RECORD_FLOATS * ((size_t)(g) + (size_t)(n))) /* work of compile and run: question 9 */
-#define JOZKERAL_MARK_PLACES(g, n) (JOZKERAL_RECORD_MARKS * ((size_t)(g) + (size_t)(n)))  /* marks: question 9 */
-#define JOZKERAL_OP_PLACES 18                                            /* places of one operation */
-#define JOZKERAL_OPS_PLACES(g, n) (JOZKERAL_RECORD_OPS * JOZKERAL_OP_PLACES * ((size_t)(g) + (size_t)(n))) /* ops: enough for any tape */
-#define JOZKERAL_COVARIANCE_PLACES(n) (4 * (size_t)(n) * (size_t)(n))    /* the covariance matrix of the 2n Majorana operators */
-#define JOZKERAL_STATE_PLACES(n) (JOZKERAL_COVARIANCE_PLACES(n) + 2 * (size_t)(n)) /* state: questions 15 and 16 */
-#define JOZKERAL_QUERY_PLACES(n) JOZKERAL_COVARIANCE_PLACES(n)           /* work of a query: enough for each; a sample needs them all */
+#define JOZKERAL_HEADER_BYTES 20  /* of the tape's header */
+#define JOZKERAL_OP_PLACES 18     /* places of one operation */
+#define JOZKERAL_RECORD_FLOATS 64 /* places of work for each gate and each qubit */
+#define JOZKERAL_RECORD_MARKS 32  /* places of marks for each of them */
+#define JOZKERAL_RECORD_OPS 3     /* operations of each of them at most */
 #define JOZKERAL_REPORT_WORDS 14
 #define JOZKERAL_MEASURES 2
 #define JOZKERAL_TABLES 3
-#define JOZKERAL_TABLE_PLACES (JOZKERAL_TABLES * JOZKERAL_MAX_QUBITS)    /* tables: all three */
-#define JOZKERAL_MODES_AT (2 * JOZKERAL_MAX_QUBITS)                      /* where the third of them starts, the modes */
-#define JOZKERAL_INDEX_WORDS 2                                           /* words of a basis index, and of out for each shot */
+#define JOZKERAL_INDEX_WORDS 2    /* words of a basis index, and of out for each shot */
+/* work and marks of compile and run: question 9 */
+#define JOZKERAL_WORK_PLACES(g, n) (JOZKERAL_RECORD_FLOATS * ((size_t)(g) + (size_t)(n)))
+#define JOZKERAL_MARK_PLACES(g, n) (JOZKERAL_RECORD_MARKS * ((size_t)(g) + (size_t)(n)))
+/* ops: enough for any tape; JOZKERAL_OP_PLACES for each operation are needed */
+#define JOZKERAL_OPS_PLACES(g, n) (JOZKERAL_RECORD_OPS * JOZKERAL_OP_PLACES * ((size_t)(g) + (size_t)(n)))
+/* state, the covariance matrix with the signs: questions 15 and 16 */
+#define JOZKERAL_COVARIANCE_PLACES(n) (4 * (size_t)(n) * (size_t)(n))
+#define JOZKERAL_STATE_PLACES(n) (JOZKERAL_COVARIANCE_PLACES(n) + 2 * (size_t)(n))
+/* work of a query: enough for each; a sample needs them all */
+#define JOZKERAL_QUERY_PLACES(n) JOZKERAL_COVARIANCE_PLACES(n)
+/* tables, and where the last of them starts, the modes */
+#define JOZKERAL_TABLE_PLACES (JOZKERAL_TABLES * JOZKERAL_MAX_QUBITS)
+#define JOZKERAL_MODES_AT (2 * JOZKERAL_MAX_QUBITS)
 
 /* ---- the kinds of operations ---------------------------------------------------------------------------------------- */
 #define JOZKERAL_KIND_ONE 1
@@ -114,7 +119,7 @@ extern "C" {
 #define JOZKERAL_WORD_INTERACTIONS 6
 #define JOZKERAL_WORD_SWAPS 7        /* swaps relabelled */
 #define JOZKERAL_WORD_OPERATIONS 8
-#define JOZKERAL_WORD_CONSERVING 9   /* from here on 0 or 1: number conserving */
+#define JOZKERAL_WORD_CONSERVING 9   /* this and the next three are 0 or 1: number conserving */
 #define JOZKERAL_WORD_EXACT 10       /* no bad block and no interaction */
 #define JOZKERAL_WORD_FREE 11        /* no bad block */
 #define JOZKERAL_WORD_ANGLED 12

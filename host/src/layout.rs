@@ -89,7 +89,7 @@ pub mod word {
     /// Swaps that were relabelled.
     pub const SWAPS: usize = 7;
     pub const OPERATIONS: usize = 8;
-    /// From here on 0 or 1: whether the number is conserved,
+    /// This and the next three are 0 or 1: whether the number is conserved,
     pub const CONSERVING: usize = 9;
     /// no block is bad, and none an interaction,
     pub const EXACT: usize = 10;
