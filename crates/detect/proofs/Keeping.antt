@@ -37,7 +37,12 @@ module _ (xs ys : List Float) (us : List ℕ) (same : Alike xs ys) where
   matrix-stays i = mat4-alike xs ys (recordAt i) (λ q a b. same i q a (omega arith))
 
   pub record-stays : (i : ℕ) → recordItem ys us i ≡ recordItem xs us i
-  record-stays i = rw (mat2-alike xs ys (recordAt i) (λ q a b. same i q a (omega arith)), matrix-stays i, same i (floatPlace i residualPlace) (omega arith) (omega arith))
+  record-stays i =
+      rw (
+        mat2-alike xs ys (recordAt i) (λ q a b. same i q a (omega arith)),
+        matrix-stays i,
+        same i (floatPlace i residualPlace) (omega arith) (omega arith),
+      )
 
   pub items-keep : (m : ℕ) → itemsIn ys us m ≡ itemsIn xs us m
   items-keep m = newest-same (itemAt xs us) (itemAt ys us) m (λ j l. item-alike xs ys us us j refl refl refl (same j))
@@ -80,7 +85,8 @@ module _ (p : ℕ) (l x : List Float) (long : length x ≡ opPlaces) (fit : p + 
 window-stays : (a : ℕ) (l m : List Float) → length m ≡ length l → a + opPlaces ≤ length l → ((q : ℕ) → a ≤ q → q < a + opPlaces → getD m q nan ≡ getD l q nan)
     → take opPlaces (drop a m) ≡ take opPlaces (drop a l)
 window-stays a l m e fit h =
-    let long : (k : List Float) → a + opPlaces ≤ length k → length (take opPlaces (drop a k)) ≡ opPlaces = λ k f. length-take-le opPlaces (drop a k) (omega (arith, length-drop a k)) in
+    let long : (k : List Float) → a + opPlaces ≤ length k → length (take opPlaces (drop a k)) ≡ opPlaces =
+    λ k f. length-take-le opPlaces (drop a k) (omega (arith, length-drop a k)) in
     let lm = long m (omega (arith, e)) in
     ext-getD nan (take opPlaces (drop a m)) (take opPlaces (drop a l)) (lm ∙ sym (long l fit))
     (λ i b. part-at a opPlaces m nan i (omega (arith, lm)) ∙ h (a + i) (omega arith) (omega (arith, lm)) ∙ sym (part-at a opPlaces l nan i (omega (arith, lm))))
@@ -170,7 +176,8 @@ module _ (xs : List Float) (us : List ℕ) where
         kept-more : Kept ys us i → Kept new us (i + 1)
         kept-more h j l k = by (eq-or-ne j i)
           where
-            by : (j ≡ i) ⊎ (j ≢ i) → take opPlaces (drop (keptPlace j) new) ≡ matchPlaces (modesIn us (markAt us j aColumn)) (modesIn us (markAt us j bColumn)) (matrix4Of new j)
+            by : (j ≡ i) ⊎ (j ≢ i) → take opPlaces (drop (keptPlace j) new)
+                ≡ matchPlaces (modesIn us (markAt us j aColumn)) (modesIn us (markAt us j bColumn)) (matrix4Of new j)
             by (inl x) = rw (x, matrix-stays ys new us alike i) (paste-there (keptPlace i) ys op refl (omega arith))
             by (inr x) =
                 rw (matrix-stays ys new us alike j)

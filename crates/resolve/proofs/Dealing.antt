@@ -115,7 +115,8 @@ module _ (relabel : Bool) (tol : Float) (xs xs₁ xs₂ ys : List Float) (us vs 
   same-state = scratch-state secondTail xs₁ xs₂ us g n i t (omega arith) (q .only) ∙ scratch-state firstTail xs xs₁ us g n i t (omega arith) (p .only)
 
   second-tail : ahead b (todo xs₁ us (i + 1) g) ≡ ahead b es
-  second-tail = ap (ahead b) (up-same (eventAt xs us) (eventAt xs₁ us) (i + 1) (g - (i + 1)) (λ j x y. row-only-event firstTail xs xs₁ (omega arith) (p .only) us j))
+  second-tail = ap (ahead b) (up-same (eventAt xs us) (eventAt xs₁ us) (i + 1) (g - (i + 1))
+      (λ j x y. row-only-event firstTail xs xs₁ (omega arith) (p .only) us j))
 
   lb-is : lb ≡ length (ahead b es)
   lb-is = q .long ∙ ap length second-tail

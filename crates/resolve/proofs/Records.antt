@@ -93,10 +93,18 @@ elsewhere p j q n a b = by (lt-or-le j p) (lt-or-le p j)
 -- ---- what is read of another record
 
 pub item-alike : (xs ys : List Float) (us vs : List ℕ) (i : ℕ) → markAt vs i kindColumn ≡ markAt us i kindColumn → markAt vs i aColumn ≡ markAt us i aColumn
-    → markAt vs i bColumn ≡ markAt us i bColumn → ((q : ℕ) → recordAt i ≤ q → q < floatPlace i itemEnd → getD ys q nan ≡ getD xs q nan) → itemAt ys vs i ≡ itemAt xs us i
+    → markAt vs i bColumn ≡ markAt us i bColumn → ((q : ℕ) → recordAt i ≤ q → q < floatPlace i itemEnd → getD ys q nan ≡ getD xs q nan)
+    → itemAt ys vs i ≡ itemAt xs us i
 unfolding itemAt
 item-alike xs ys us vs i k a b h =
-    rw (k, a, b, mat2-alike xs ys (recordAt i) (λ q l g. h q l (omega arith)), mat4-alike xs ys (recordAt i) (λ q l g. h q l (omega arith)), h (floatPlace i residualPlace) (omega arith) (omega arith))
+    rw (
+      k,
+      a,
+      b,
+      mat2-alike xs ys (recordAt i) (λ q l g. h q l (omega arith)),
+      mat4-alike xs ys (recordAt i) (λ q l g. h q l (omega arith)),
+      h (floatPlace i residualPlace) (omega arith) (omega arith),
+    )
 
 pub rest-alike : (xs ys : List Float) (us vs : List ℕ) (g s : ℕ) → markAt vs (g + s) kindColumn ≡ markAt us (g + s) kindColumn
     → ((q : ℕ) → recordAt (g + s) ≤ q → q < floatPlace (g + s) rowFloats → getD ys q nan ≡ getD xs q nan) → restAt ys vs g s ≡ restAt xs us g s

@@ -298,7 +298,8 @@ module _ (xs : List Float) (i : ℕ) (c : Class2) where
   module _ (room : FloatsAt xs i) where
     item-residual : residualAt (itemFloats xs i c) i ≡ residualOf (c .kind)
     unfolding itemFloats
-    item-residual = getD-set-same (putMatrix4Of xs i (c .v)) (floatPlace i residualPlace) (residualOf (c .kind)) nan (omega (arith, length4 xs (recordAt i) (c .v)))
+    item-residual = getD-set-same (putMatrix4Of xs i (c .v)) (floatPlace i residualPlace) (residualOf (c .kind)) nan
+        (omega (arith, length4 xs (recordAt i) (c .v)))
 
     item-matrix : matrix4Of (itemFloats xs i c) i ≡ c .v
     unfolding itemFloats
@@ -324,7 +325,8 @@ module _ (xs : List Float) (i : ℕ) (c : Class2) where
 
 -- ---- scratch
 
-pub scratch-state : (row : ℕ) (xs ys : List Float) (us : List ℕ) (g n i : ℕ) (t : Tally) → itemEnd ≤ row → RowOnly row xs ys → resolvedAt ys us g n i t ≡ resolvedAt xs us g n i t
+pub scratch-state : (row : ℕ) (xs ys : List Float) (us : List ℕ) (g n i : ℕ) (t : Tally)
+    → itemEnd ≤ row → RowOnly row xs ys → resolvedAt ys us g n i t ≡ resolvedAt xs us g n i t
 unfolding resolvedAt
 scratch-state row xs ys us g n i t h o = λ z. record {
   rests = listed-same none n (restAt xs us g) (restAt ys us g) (λ s l. rest-alike xs ys us us g s refl (λ q a b. at (g + s) q a (omega arith))) z;

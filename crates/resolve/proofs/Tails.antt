@@ -113,16 +113,19 @@ module _ (row : ℕ) where
   pub row-only-trans : (xs ys zs : List Float) → RowOnly row xs ys → RowOnly row ys zs → RowOnly row xs zs
   row-only-trans xs ys zs a b = record { size = b .size ∙ a .size; same = λ i q h c. b .same i q h c ∙ a .same i q h c }
 
-  pub row-only-put : (xs ys : List Float) (t : ℕ) (m : Mat2) → row + rowFloats ≤ recordFloats → RowOnly row xs ys → RowOnly row xs (store2Of ys (floatPlace t row) m)
+  pub row-only-put : (xs ys : List Float) (t : ℕ) (m : Mat2) → row + rowFloats ≤ recordFloats
+      → RowOnly row xs ys → RowOnly row xs (store2Of ys (floatPlace t row) m)
   row-only-put xs ys t m h o = record {
     size = length-row ys (floatPlace t row) (flat m) ∙ o .size;
     same = λ i q l a. place-stays ys (floatPlace t row) (flat m) (floatPlace i q) (apart i q l a) ∙ o .same i q l a;
   }
     where
-      apart : (i q : ℕ) → q < recordFloats → (q < row) ⊎ (row + rowFloats ≤ q) → (floatPlace i q < floatPlace t row) ⊎ (floatPlace t row + rowFloats ≤ floatPlace i q)
+      apart : (i q : ℕ) → q < recordFloats → (q < row) ⊎ (row + rowFloats ≤ q)
+          → (floatPlace i q < floatPlace t row) ⊎ (floatPlace t row + rowFloats ≤ floatPlace i q)
       apart i q l a = by (lt-or-le (floatPlace i q) (floatPlace t row)) (lt-or-le (floatPlace i q) (floatPlace t row + rowFloats))
         where
-          by : (floatPlace i q < floatPlace t row) ⊎ (floatPlace t row ≤ floatPlace i q) → (floatPlace i q < floatPlace t row + rowFloats) ⊎ (floatPlace t row + rowFloats ≤ floatPlace i q)
+          by : (floatPlace i q < floatPlace t row) ⊎ (floatPlace t row ≤ floatPlace i q)
+              → (floatPlace i q < floatPlace t row + rowFloats) ⊎ (floatPlace t row + rowFloats ≤ floatPlace i q)
               → (floatPlace i q < floatPlace t row) ⊎ (floatPlace t row + rowFloats ≤ floatPlace i q)
           by (inl x) y = inl x
           by (inr x) (inr y) = inr y
@@ -175,7 +178,8 @@ gather-none xs us k g s row acc h e back = record {
       ap (mat2At xs) p ∙ back ∙ e ∙ sym (ap (λ t. timeProductOf (take t [])) z);
 }
 
-module _ (xs ys : List Float) (us : List ℕ) (k g s row len j : ℕ) (acc : Mat2) (low : matrixFloats ≤ row) (high : row + rowFloats ≤ recordFloats) (i : Gathering xs ys us k g s row len j acc) where
+module _ (xs ys : List Float) (us : List ℕ) (k g s row len j : ℕ) (acc : Mat2) (low : matrixFloats ≤ row) (high : row + rowFloats ≤ recordFloats)
+    (i : Gathering xs ys us k g s row len j acc) where
   done : ahead s (todo xs us j g) ≡ [] → Prefixes xs ys us k g s row len
   done h =
       let all : i .gs ≡ ahead s (todo xs us k g) = sym (append-nil (i .gs)) ∙ ap (λ l. i .gs ++ l) (sym h) ∙ i .tail in
@@ -238,20 +242,24 @@ module _ (xs ys : List Float) (us : List ℕ) (k g s row len j : ℕ) (acc : Mat
       acc-is = a ∙ ap₂ timeStepOf (i .now) (e ∙ row-only-matrix2 row xs ys low (i .only) j) ∙ sym (time-product-more (i .gs) (matrix2Of xs j))
 
       -- the newest cut takes all of it
-      new : (t : ℕ) → t ≡ len + 1 → mat2At (store2Of ys (floatPlace (len + 1) row) acc′) (floatPlace t row) ≡ timeProductOf (take t (i .gs ++ (matrix2Of xs j ∷ [])))
+      new : (t : ℕ) → t ≡ len + 1 → mat2At (store2Of ys (floatPlace (len + 1) row) acc′) (floatPlace t row)
+          ≡ timeProductOf (take t (i .gs ++ (matrix2Of xs j ∷ [])))
       new t p =
           rw p
           (mat2-back ys (floatPlace (len + 1) row) acc′ (omega (arith, i .only .size)) ∙ acc-is
           ∙ ap timeProductOf (sym (take-all (len + 1) (i .gs ++ (matrix2Of xs j ∷ [])) (omega (arith, length-append (i .gs) (matrix2Of xs j ∷ []), i .count)))))
 
       -- the others are as they were
-      old : (t : ℕ) → t < len + 1 → mat2At (store2Of ys (floatPlace (len + 1) row) acc′) (floatPlace t row) ≡ timeProductOf (take t (i .gs ++ (matrix2Of xs j ∷ [])))
+      old : (t : ℕ) → t < len + 1 → mat2At (store2Of ys (floatPlace (len + 1) row) acc′) (floatPlace t row)
+          ≡ timeProductOf (take t (i .gs ++ (matrix2Of xs j ∷ [])))
       old t l =
-          mat2-alike ys (store2Of ys (floatPlace (len + 1) row) acc′) (floatPlace t row) (λ q b c. place-stays ys (floatPlace (len + 1) row) (flat acc′) q (inl (omega arith)))
+          mat2-alike ys (store2Of ys (floatPlace (len + 1) row) acc′) (floatPlace t row)
+          (λ q b c. place-stays ys (floatPlace (len + 1) row) (flat acc′) q (inl (omega arith)))
           ∙ i .each t (omega arith) ∙ ap timeProductOf (sym (take-append-le t (i .gs) (matrix2Of xs j ∷ []) (omega (arith, i .count))))
 
 -- the row of cut 0 was written before the loop
-pub prefixes-after : (xs zs ys : List Float) (us : List ℕ) (k g s row r : ℕ) (m : Mat2) → matrixFloats ≤ row → row + rowFloats ≤ recordFloats → zs ≡ store2Of xs row m
+pub prefixes-after : (xs zs ys : List Float) (us : List ℕ) (k g s row r : ℕ) (m : Mat2) → matrixFloats ≤ row → row + rowFloats ≤ recordFloats
+    → zs ≡ store2Of xs row m
     → Prefixes zs ys us k g s row r → Prefixes xs ys us k g s row r
 prefixes-after xs zs ys us k g s row r m low high e p = record {
   only = row-only-trans row xs zs ys first (p .only);

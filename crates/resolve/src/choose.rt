@@ -16,9 +16,9 @@ use gate::kron;
 use gate::load2;
 use gate::mul4;
 use num::either;
-use work::FIRST_ROW;
+use work::FIRST_TAIL;
 use work::RECORD_FLOATS;
-use work::SECOND_ROW;
+use work::SECOND_TAIL;
 
 // A candidate: its score, the cuts of the two tails, and the class that the block then has.
 pub struct Choice {
@@ -108,12 +108,12 @@ fn try_row(
     requires { ⌜ FloatsAt (now w) ka × FloatsAt (now w) lb × (ka < 65536) × (lb < 65535) ⌝ }
     ensures { λ r. ⌜ r ≡ tryEach relabel tol base (firstRow (now (w .entry))) (secondRow (now (w .entry))) (offersOf ka (cuts lb)) start ⌝ }
 {
-    let ma = load2(w, RECORD_FLOATS * ka + FIRST_ROW);
+    let ma = load2(w, RECORD_FLOATS * ka + FIRST_TAIL);
     let mut s = start;
     let mut kb = 0;
     while kb <= lb {
         if in_window(lb, kb) {
-            let mb = load2(w, RECORD_FLOATS * kb + SECOND_ROW);
+            let mb = load2(w, RECORD_FLOATS * kb + SECOND_TAIL);
             s = offer(ka, kb, classify2(relabel, tol, mul4(kron(ma, mb), base)), s);
         }
         kb += 1;

@@ -1,4 +1,4 @@
--- What stands where among the floats of a record. Numbers count from the record's first float; code has the same in capitals. Assumes nothing.
+-- What stands where among the floats of a record, counted from its first: in code RESIDUAL, KEPT, FIRST_TAIL and SECOND_TAIL. Assumes nothing.
 -- Only inner functions rest on this.
 use mathlib.Core.List.{List}
 use Prim.Native.Nat.{ℕ, _+_, _*_, _≤_}

@@ -7,6 +7,6 @@ pub const RESIDUAL: usize = 32;
 pub const KEPT: usize = 40;
 
 // Of record t, while a block is resolved: what cut t of its first tail takes, and of its second.
-pub const FIRST_ROW: usize = 40;
+pub const FIRST_TAIL: usize = 40;
 
-pub const SECOND_ROW: usize = 48;
+pub const SECOND_TAIL: usize = 48;

@@ -14,14 +14,26 @@ use Rattle.gaussian.proofs.Answering.{told-no, told-yes, passes, emits-
 use Rattle.gaussian.proofs.engine.run_in.Statement.{statement}
 use Rattle.gaussian.proofs.engine.run_in.Tie as tie
 
+-- ---- the points
+
+-- before anything is lent on
+abbrev first : tie.After-slice-known4 → tie.Start
+first c = c .before .before .before .before .before
+
+-- before the report is made
+abbrev start : tie.After-detect → tie.Start
+start c = first (c .before .before .before)
+
+-- ---- the needs
+
 detect-requires : tie.Need-detect-requires
 detect-requires c κs =
-    let s = c .before .before .before .before .before .before .before in
+    let s = first (c .before .before) in
     let a = s .args in
     lent-space (a .tape .now) (a .h) (a .g) (a .w .now) (a .u .now) (s .pre)
 
 verdict-requires : tie.Need-verdict-requires
-verdict-requires c κs = c .before .before .before .before .before .before .before .before .before .before .before .before .pre .tape .qubits
+verdict-requires c κs = start (c .before .before .before .before) .pre .tape .qubits
 
 returns : tie.Need-returns
 unfolding answerOf opsAfter stateAfter
@@ -29,7 +41,7 @@ returns c =
     let t = c .before .before .before .before .before .before .before .before .before in
     let v = t .before in
     let d = v .before .before .before .before .before in
-    let a = d .before .before .before .before .before .before .before .before .args in
+    let a = start d .args in
     let ys = d .detect .last .1 .1 .1 .0 in
     let vs = d .detect .last .1 .1 .1 .1 .0 in
     let p = d .detect .ensures in
@@ -52,7 +64,7 @@ emit-all-requires c κs =
     let e = c .before .before .before in
     let v = e .before in
     let d = v .before .before .before .before .before in
-    let a = d .before .before .before .before .before .before .before .before .args in
+    let a = start d .args in
     let ys = d .detect .last .1 .1 .1 .0 in
     let vs = d .detect .last .1 .1 .1 .1 .0 in
     let p = d .detect .ensures in (
@@ -71,7 +83,7 @@ evolve-requires c κs =
     let e = m .before .before .before .before in
     let v = e .before in
     let d = v .before .before .before .before .before in
-    let a = d .before .before .before .before .before .before .before .before .args in
+    let a = start d .args in
     let ys = d .detect .last .1 .1 .1 .0 in
     let vs = d .detect .last .1 .1 .1 .1 .0 in
     let p = d .detect .ensures in
@@ -93,7 +105,7 @@ returns-2 c =
     let e = m .before .before .before .before in
     let v = e .before in
     let d = v .before .before .before .before .before in
-    let a = d .before .before .before .before .before .before .before .before .args in
+    let a = start d .args in
     let k = contentOf (parse (a .tape .now)) in
     let ys = d .detect .last .1 .1 .1 .0 in
     let vs = d .detect .last .1 .1 .1 .1 .0 in

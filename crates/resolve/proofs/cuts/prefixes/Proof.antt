@@ -45,18 +45,27 @@ loop-holds c =
 
 -- ---- in the loop
 
+-- before the loop, and at the start
+abbrev entered : tie.In-loop Inv-loop μ-loop → tie.After-next-on Inv-loop μ-loop
+entered c = c .before .before
+
+abbrev opened : tie.After-next-on Inv-loop μ-loop → tie.After-identity2 Inv-loop μ-loop
+opened c = c .before .before .before .before .before
+
+abbrev start : tie.In-loop Inv-loop μ-loop → tie.Start Inv-loop μ-loop
+start c = opened (entered c) .before .before .before
+
 -- what is read and written stands in the slice, and nothing wraps
 inside : (c : tie.In-loop Inv-loop μ-loop)
     → (FloatsAt (c .before .loop .w) (c .before .loop .j))
     × (FloatsAt (c .before .loop .w) (c .before .loop .len + 1))
-    × (recordAt (c .before .loop .len + 1) + c .before .before .before .before .before .before .before .before .before .before .args .row + rowFloats
-    ≤ length (c .before .loop .w))
+    × (recordAt (c .before .loop .len + 1) + start c .args .row + rowFloats ≤ length (c .before .loop .w))
 inside c =
-    let pre = c .before .before .before .before .before .before .before .before .before .before .pre in
+    let pre = start c .pre in
     let i = c .before .loop .inv in (
-      omega (arith, pre, c .loop-test .taken, i .only .size, long (c .before .before)),
-      omega (arith, pre, c .loop-test .taken, i .few, i .only .size, long (c .before .before)),
-      omega (arith, pre, c .loop-test .taken, i .few, i .only .size, long (c .before .before)),
+      omega (arith, pre, c .loop-test .taken, i .only .size, long (entered c)),
+      omega (arith, pre, c .loop-test .taken, i .few, i .only .size, long (entered c)),
+      omega (arith, pre, c .loop-test .taken, i .few, i .only .size, long (entered c)),
     )
 
 block-on-requires : tie.Need-block-on-requires Inv-loop μ-loop
