@@ -1,5 +1,5 @@
 //! The driver of the oracle: gate lists in, the original's answers out.
-//! docs/TESTING.md has the formats.
+//! docs/TESTING.md has the format of gate lists, crates/replay_*/README.md those of stored lists.
 
 pub mod answer;
 pub mod bits;

@@ -1,4 +1,4 @@
-//! The program `oracle`; docs/TESTING.md lists its commands.
+//! The program `oracle`; without arguments it lists its commands.
 
 use oracle::families::FAMILIES;
 use oracle::list::{parse_many, List, SEPARATOR};

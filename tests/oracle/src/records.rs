@@ -1,5 +1,5 @@
 //! Stored lists: words of 8 bytes, little endian. A record is a tag and what
-//! follows it; tag 0 ends the list. docs/TESTING.md has the tables of tags.
+//! follows it; tag 0 ends the list. crates/replay_*/README.md have the tags.
 
 use crate::bits::word;
 
