@@ -33,7 +33,7 @@ const SWAP_QUBITS: u64 = 13;
 
 // How many words follow a tag; 0 for the end of the list and for a tag that is none.
 fn words(tag: u64) -> usize
-    ensures { λ r. ⌜ r ≤ 65536 ⌝ }
+    ensures { λ r. ⌜ r ≤ 96 ⌝ }
 {
     match tag {
         1 | 2 => 2,
