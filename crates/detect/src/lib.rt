@@ -1,6 +1,8 @@
 // The detector's end (`compile` of the original's detect.rs, from the items on): the report, the
 // operations, and the public `compile`, by the questions 1 to 10.
 
+#![tactic(auto)]
+
 mod places; // the places of an operation
 mod count; // each item's share of the report, and their sum
 mod emit; // the operations

@@ -2,6 +2,8 @@
 // its answer, makes the call, and lays the answer out: it returns the number of the question whose answer is no, or 0; the place, the value or the
 // report goes to slices of the caller's. No export has a `requires`.
 
+#![tactic(auto)]
+
 mod said; // the answers of the state calls in slices
 mod reports; // the report in slices
 mod tapes; // calls on a tape

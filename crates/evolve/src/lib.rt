@@ -1,5 +1,7 @@
 // A program run on the vacuum (`evolve` of the original's state.rs).
 
+#![tactic(auto)]
+
 ghost use Rattle.std.specs.Prelude.{◌≡◌, ◌*◌, ◌≤◌, length};
 ghost use Rattle.laws.specs.Bounds.{op_places};
 ghost use Rattle.local.specs.State.{stored};

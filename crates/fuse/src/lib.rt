@@ -2,6 +2,8 @@
 // gates stand as events in the lent work, two-qubit gates are taken into blocks, and runs of
 // diagonal one-qubit gates into one.
 
+#![tactic(auto)]
+
 mod records; // matrices of a record, and tests on its marks
 mod relabel; // the gates of a tape as events on slots
 mod back; // looking back from a gate

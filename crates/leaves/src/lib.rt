@@ -1,6 +1,9 @@
 // The leaves as a static library, for timing and comparison from C and Rust (bench/). A matrix is 8
 // or 32 floats, row by row, real before imaginary. A slice that is too short reads as zeros, and
 // nothing is written to one.
+
+#![tactic(auto)]
+
 ghost use Rattle.std.specs.Prelude.{◌≡◌, cond, ◌<◌, ◌≤◌};
 ghost use Rattle.std.specs.Float.{binary64};
 ghost use Rattle.std.specs.Float.Ieee.{of_bits};

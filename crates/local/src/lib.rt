@@ -1,6 +1,8 @@
 // A map applied to the state, 001's `apply_local` with its `det`: the covariance m on the map's rows and columns,
 // and the postponed signs d, settled on its own rows and turned for all later modes.
 
+#![tactic(auto)]
+
 mod both; // both steps of a map of one mode
 mod columns; // the columns step of a map of two modes
 mod det; // the determinant of a map

@@ -1,6 +1,8 @@
 // The Majorana maps of one and two modes, with their residuals: detect.rs of the original from
 // `majoranas2` to `majorana_map2`, and its tests on the particle number.
 
+#![tactic(auto)]
+
 mod maps; // a map of Majorana operators with its residual
 mod operators; // the Majorana operators of two modes, and products by them and by SWAP
 mod one_mode; // the map of one mode

@@ -1,5 +1,7 @@
 // The constant table of the named gates, as gate.rs of the original has it.
 
+#![tactic(auto)]
+
 mod table; // the exact matrices of the named gates, by code
 
 pub use table::{matrix_1q, matrix_2q};

@@ -3,6 +3,8 @@
 // and tests that the crates above share. Only a read of bytes asks anything of its caller: that the
 // bytes are there.
 
+#![tactic(auto)]
+
 mod bits; // bits.rt: f64 from and to its bits, little-endian numbers in bytes
 mod logic; // logic.rt: both, either
 mod order; // order.rt: abs, max, min, clamp

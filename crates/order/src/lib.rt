@@ -1,6 +1,8 @@
 // The order of the wires: the edges, `path_order` and the choice in `compile` of the original's detect.rs. Matchgate pairs weigh their block count; a
 // greedy path cover, heaviest pair first, replaces the identity only if it covers strictly more.
 
+#![tactic(auto)]
+
 mod edges; // pair weights: counted, summed
 mod sort; // the edges, heaviest first
 mod keys; // the path cover, as a key for each wire

@@ -1,6 +1,8 @@
 // Kernels on a square matrix in lent work, for the queries and samples of a state: the Pfaffian, and one shot of a sample.
 // Each leaves its matrix as work and anything after it as it was.
 
+#![tactic(auto)]
+
 mod pairs; // pairs.rt: the Pfaffian
 mod shots; // shots.rt: one shot
 

@@ -1,6 +1,9 @@
 // What the printing programs share: a tape is read from an open file, and its report and the Z of every
 // qubit are written to standard output. The buffer has more places than a tape that is printed may have
 // bytes, so a longer one shows.
+
+#![tactic(auto)]
+
 use libc::STDOUT_FILENO;
 use text::{MAX_TEXT, print_tape};
 

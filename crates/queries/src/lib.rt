@@ -2,6 +2,8 @@
 // that it is about into lent work, runs a kernel of `pfaffian` there, and leaves the work zero. A public call asks nothing of its
 // caller: what is wrong with n, a slice, a list or the mode table is a refusal.
 
+#![tactic(auto)]
+
 mod basis; // basis.rt: the probability of a basis index
 mod lists; // lists.rt: the list of a query, as marks of modes
 mod marginals; // marginals.rt: the probability of some qubits' bits

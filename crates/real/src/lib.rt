@@ -1,5 +1,7 @@
 // Real matrices: maps of two and of four indices by value, and a matrix in a slice by its entries.
 
+#![tactic(auto)]
+
 mod entries; // an entry of a matrix in a slice, a slice filled
 mod maps; // maps, as structs of rows
 

@@ -1,5 +1,8 @@
 // Replays the stored blocks and prints how many of their maps, residuals, classes and phases agree, bit for
 // bit, with what the proved functions compute.
+
+#![tactic(auto)]
+
 ghost use Rattle.std.specs.Prelude.{◌+◌, ◌≤◌, length};
 
 use classify::{Class2, Kind2, Rotation};

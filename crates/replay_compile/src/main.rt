@@ -1,5 +1,8 @@
 // Replays the stored tapes through `compile` and prints how many answers agree with those of the original: the number and the place of a refusal, every
 // field of the report, every place of the operation slice, and what is left in the lent work.
+
+#![tactic(auto)]
+
 ghost use Rattle.std.specs.Prelude.{◌≤◌};
 ghost use Rattle.laws.specs.Bounds.{max_qubits};
 

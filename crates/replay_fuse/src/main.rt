@@ -1,6 +1,9 @@
 // Replays the stored tapes and prints how many of the items that fusing makes of them, and of the
 // counts and slots beside these, agree with those of the original: matrices and residuals bit for
 // bit, except on angled tapes, of which the list has kinds and wires only.
+
+#![tactic(auto)]
+
 ghost use Rattle.std.specs.Prelude.{◌≡◌, ◌+◌, ◌≤◌, length};
 ghost use Rattle.work.specs.Rows.{Floats, FloatsAt};
 ghost use Rattle.work.specs.Marks.{Records};

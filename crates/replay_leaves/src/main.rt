@@ -1,5 +1,8 @@
 // Replays the stored results of the leaves and prints how many agree, bit for bit, with what the
 // proved functions compute. A record is a tag, operands and the wanted result.
+
+#![tactic(auto)]
+
 ghost use Rattle.std.specs.Prelude.{◌≤◌};
 
 use libc::STDOUT_FILENO;

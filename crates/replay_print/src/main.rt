@@ -1,5 +1,8 @@
 // The printing program on stored tapes: one that ends a byte beyond a page of 4,096 bytes, the same without
 // that byte, one of 60,000 bytes, and one that is a byte too long. docs/TESTING.md says how they were made.
+
+#![tactic(auto)]
+
 use libc::STDOUT_FILENO;
 use printing::print_from;
 

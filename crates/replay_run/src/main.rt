@@ -1,5 +1,8 @@
 // Replays the stored tapes through `run` and puts the stored queries to each state. Prints how many answers, reports, slices and shots agree, bit for
 // bit, with the stored ones, and of each kind the first that does not.
+
+#![tactic(auto)]
+
 mod tapes; // tapes.rt: a tape run in lent slices
 
 use stored_queries::counts;

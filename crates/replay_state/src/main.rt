@@ -1,5 +1,8 @@
 // Replays the stored states and calls, and prints how many answers, slices and outputs agree, bit for bit,
 // with what the proved functions compute. A record is a tag, the number of words that follow, and the words.
+
+#![tactic(auto)]
+
 use stored::Tally;
 
 mod tags; // tags.rt: the tags of records

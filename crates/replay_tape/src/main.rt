@@ -1,6 +1,9 @@
 // Replays the stored tapes and prints how many answers of the proved reader agree with the stored
 // ones, which tests/tape/make.py made from the format's description. That file says how they are
 // laid out: words of two bytes, the lowest first.
+
+#![tactic(auto)]
+
 ghost use Rattle.std.specs.Prelude.{◌≡◌, ◌+◌, ◌<◌, ◌≤◌, length};
 ghost use Rattle.tape.specs.Bounds.{header_length};
 ghost use Rattle.tape.specs.Parse.{gates_of};

@@ -2,6 +2,8 @@
 // in time order take the one-qubit gates before them and the best cuts of those after them, are
 // classified, and become items, which stand in the lent work where their blocks stood.
 
+#![tactic(auto)]
+
 mod cuts; // closing tails and their cuts
 mod choose; // the best pair of cuts
 mod settle; // what an event leaves behind

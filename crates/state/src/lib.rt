@@ -2,6 +2,8 @@
 // signs d, in one slice that the caller lends, and the calls on it. A public call asks nothing of its
 // caller: what is wrong with n, a slice or the mode table is a refusal.
 
+#![tactic(auto)]
+
 mod answer; // what the calls answer
 mod application; // an operation applied to the state
 mod check; // question 16

@@ -1,6 +1,9 @@
 // Stored results, for the programs that replay them. A list is a file of words of eight bytes, the lowest
 // first; a record is a tag and what follows it; the tag 0 ends the list. Floats are stored by their bits,
 // every NaN by one pattern. docs/TESTING.md says how the lists were made.
+
+#![tactic(auto)]
+
 mod lists; // lists.rt: a list read, its records, the tape of a record
 mod rooms; // rooms.rt: how long the slices are that a stored call is lent
 mod slices; // slices.rt: slices beside the words of a record

@@ -1,6 +1,8 @@
 // The layout of the lent work: for each gate and each slot a record of floats and marks. Every number
 // of the layout has its name here. Marks are read and written here, floats by rows in crate gate.
 
+#![tactic(auto)]
+
 mod columns; // what each column of the marks holds, and the kinds of a record
 mod marks; // a mark read, a mark written
 mod rows; // what the floats of a record hold

@@ -1,4 +1,7 @@
 // The printing program, on standard input.
+
+#![tactic(auto)]
+
 use libc::STDIN_FILENO;
 use printing::print_from;
 
