@@ -1,0 +1,14 @@
+-- `num::root::normalise` meets its contract. The loop's invariant: m is t moved up by s places, and s is at most 52. The measure is what m lacks to 2 ^ 53.
+-- Assumes nothing.
+use mathlib.Core.Path.{◌≡◌, sym}
+use Prim.Native.Nat.{◌*◌, ◌-◌, ◌^◌, ◌≤◌, ◌<◌}
+use native.Mathlib.Nat.{mul-one}
+use native.Mathlib.Omega.{arith}
+use Rattle.num.proofs.root.Turns.{few, doubled}
+use Rattle.num.proofs.root.normalise.Given as goal
+
+abbrev pub invariant-loop-m : goal.invariant-loop-m
+invariant-loop-m l = (l.m ≡ l.t * 2 ^ l.s) × (0 < l.m) × (l.m < 2 ^ 53) × (l.s ≤ 52)
+
+abbrev pub decreases-loop-m : goal.decreases-loop-m
+decreases-loop-m l = 2 ^ 53 - l.m

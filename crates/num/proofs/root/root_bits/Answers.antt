@@ -1,0 +1,15 @@
+-- `num::root::root_bits` meets its contract: `met` puts together what its parts ensure. Assumes nothing.
+use native.Mathlib.Omega.{arith}
+use Rattle.num.proofs.root.Tested.{short}
+use Rattle.num.proofs.root.Fields.{met}
+use borrow.Author.Rules.{rules}
+use Rattle.num.proofs.root.root_bits.Goals as goal
+
+pub overflow_add-result : goal.overflow_add-result
+overflow_add-result c = omega (arith, short _ _ c.evened-a.ensures.short c.nearest-r.ensures)
+
+pub returns : goal.returns
+returns c =
+    let e = c.before.before in
+    let p = e.before in
+    met p.args.b p.parts-n.result.m p.parts-n.result.u e.evened-a.result c.nearest-r.result p.requires.1 p.parts-n.ensures e.evened-a.ensures c.nearest-r.ensures
