@@ -9,7 +9,7 @@ use majorana::{majorana_map2, swap4};
 use num::either;
 
 // What a block is, with its matchgate residual where that counts.
-#[derive(Drop)]
+#[derive(Clone, Copy)]
 pub enum Kind2 {
     // Diagonal, and its phase counts as none.
     Diag,
@@ -23,7 +23,7 @@ pub enum Kind2 {
 
 // The class of a block: `v` is the matrix to apply; where `swap` is true the block is SWAP · v.
 // `angled` says whether an off-diagonal test that was made on the way passed.
-#[derive(Drop)]
+#[derive(Clone, Copy)]
 pub struct Class2 {
     pub kind: Kind2,
     pub swap: bool,

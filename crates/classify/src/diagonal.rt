@@ -8,7 +8,7 @@ use gate::{Complex, Mat4};
 use real::{Map2, Real2};
 
 // The rotation of a wire, or none.
-#[derive(Drop)]
+#[derive(Clone, Copy)]
 pub enum Rotation {
     By(Map2),
     Nothing,

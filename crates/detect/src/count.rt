@@ -20,7 +20,7 @@ use work::{
 };
 
 // Blocks, those on two wires, what they are, the operations that they become, the largest residual, and whether all commute with the particle number.
-#[derive(Drop)]
+#[derive(Clone, Copy)]
 pub struct Counts {
     pub blocks: u32,
     pub two: u32,

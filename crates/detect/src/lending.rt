@@ -7,7 +7,7 @@ ghost use Rattle.detect.specs.Lending.{lending_of};
 use work::{RECORD_FLOATS, RECORD_MARKS};
 
 // The lengths of the parts that are lent on; or the slices are too short for them.
-#[derive(Drop)]
+#[derive(Clone, Copy)]
 pub enum Lending {
     Parts { floats: usize, marks: usize },
     Short,

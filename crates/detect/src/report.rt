@@ -9,7 +9,7 @@ use order::Ordering;
 
 // What the detector found. The tables have an entry for each qubit that there can be, and the first n count: the wire on each mode, whether a path
 // starts there, the mode of each qubit.
-#[derive(Drop)]
+#[derive(Clone, Copy)]
 pub struct Report {
     pub n: usize,
     pub blocks: u32,
@@ -32,14 +32,14 @@ pub struct Report {
     pub modes: [u16; MAX_QUBITS],
 }
 
-#[derive(Drop)]
+#[derive(Clone, Copy)]
 pub enum Answer {
     Done,
     Refused { number: u32, place: usize },
 }
 
 // The numbers of a refusal's report are zero.
-#[derive(Drop)]
+#[derive(Clone, Copy)]
 pub struct Compiled {
     pub answer: Answer,
     pub report: Report,

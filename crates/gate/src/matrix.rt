@@ -5,19 +5,19 @@ ghost use Rattle.gate.specs.Matrix.{dot2_of, mul2_of, dag2_of, kron_row_of, kron
 
 use crate::complex::Complex;
 
-#[derive(Drop)]
+#[derive(Clone, Copy)]
 pub struct Row2 {
     pub c0: Complex,
     pub c1: Complex,
 }
 
-#[derive(Drop)]
+#[derive(Clone, Copy)]
 pub struct Mat2 {
     pub r0: Row2,
     pub r1: Row2,
 }
 
-#[derive(Drop)]
+#[derive(Clone, Copy)]
 pub struct Row4 {
     pub c0: Complex,
     pub c1: Complex,
@@ -26,7 +26,7 @@ pub struct Row4 {
 }
 
 // A gate on two qubits (a, b): row and column index are 2 * bit(a) + bit(b).
-#[derive(Drop)]
+#[derive(Clone, Copy)]
 pub struct Mat4 {
     pub r0: Row4,
     pub r1: Row4,

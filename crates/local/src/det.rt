@@ -8,7 +8,7 @@ ghost use Rattle.local.specs.Parts.{line2, line3, line4};
 
 use real::{Map2, Map4, Real2, Real4};
 
-#[derive(Drop)]
+#[derive(Clone, Copy)]
 pub struct Real3 {
     pub x0: f64,
     pub x1: f64,
@@ -29,7 +29,7 @@ fn not_below(x: f64, y: f64) -> bool
 }
 
 // The best pivot row so far.
-#[derive(Drop)]
+#[derive(Clone, Copy)]
 pub struct Best {
     pub row: usize,
     pub head: f64,

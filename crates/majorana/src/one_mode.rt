@@ -29,7 +29,7 @@ const Y: Mat2 = Mat2 {
 };
 
 // A row of the map, and its part of the residual, squared.
-#[derive(Drop)]
+#[derive(Clone, Copy)]
 struct Fitted2 {
     pub q: Real2,
     pub d: f64,

@@ -11,7 +11,7 @@ use gate::{Complex, Mat4, Row4};
 use real::{Map4, Real4};
 
 // A row of the map, and its part of the residual, squared.
-#[derive(Drop)]
+#[derive(Clone, Copy)]
 struct Fitted4 {
     pub q: Real4,
     pub d: f64,

@@ -30,7 +30,7 @@ const ROUND: f64 = 201326592.0; // 3 * 2^26: added and taken away, it rounds a n
 const SLACK: u64 = 16; // how far off, in 2^52, a guess's square may be for the test's sums to fit
 
 // A number moved up by s binary places.
-#[derive(Drop)]
+#[derive(Clone, Copy)]
 struct Norm {
     m: u64,
     s: u64,
@@ -93,7 +93,7 @@ fn by_digits(a: u64) -> u64
 }
 
 // k * 2^52 + low.
-#[derive(Drop)]
+#[derive(Clone, Copy)]
 struct Square {
     k: u64,
     low: u64,
@@ -188,7 +188,7 @@ fn nearest(a: u64, guess: f64) -> u64
 
 // A number as its digits m, the leading one at the place 52, and its exponent u: the field that it
 // has or, a subnormal number, would have, and BIAS more.
-#[derive(Drop)]
+#[derive(Clone, Copy)]
 struct Digits {
     m: u64,
     u: u64,

@@ -15,7 +15,7 @@ use num::abs;
 use real::{entry, put};
 
 // What the pivot search found: the largest absolute value of a row, and its column.
-#[derive(Drop)]
+#[derive(Clone, Copy)]
 pub struct Found {
     pub best: f64,
     pub piv: usize,

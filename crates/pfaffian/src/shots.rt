@@ -109,7 +109,7 @@ fn spin(one: bool) -> f64
 }
 
 // A measured mode: its outcome, whether the matrix is still fresh, and where the next draw stands.
-#[derive(Drop)]
+#[derive(Clone, Copy)]
 struct Measured {
     pub one: bool,
     pub fresh: bool,
@@ -199,7 +199,7 @@ fn word(bits: &[bool], modes: &[u16], n: usize, low: usize) -> u64
 }
 
 // The two words of a shot.
-#[derive(Drop)]
+#[derive(Clone, Copy)]
 pub struct Words {
     pub low: u64,
     pub high: u64,

@@ -160,7 +160,7 @@ fn agrees(tag: u64, s: &[u8]) -> bool {
 }
 
 // What a walk over the list found of a tag, and where it ended.
-#[derive(Drop)]
+#[derive(Clone, Copy)]
 struct Walked {
     tally: Tally,
     at: usize,

@@ -78,7 +78,7 @@ fn call(tag: u64, n: usize, v: &mut [f64], modes: &[u16], s: &[u8]) -> bool {
 }
 
 // A state's n, the lengths of its slice and of its mode table, and whether the last record agreed.
-#[derive(Drop)]
+#[derive(Clone, Copy)]
 pub struct Sizes {
     pub n: usize,
     pub len: usize,

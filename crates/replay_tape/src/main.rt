@@ -137,7 +137,7 @@ fn one(x: bool) -> u64
 }
 
 // How many answers there are of a tag, and how many agree; and whether the list has its end.
-#[derive(Drop)]
+#[derive(Clone, Copy)]
 pub struct Tally {
     right: u64,
     all: u64,

@@ -12,7 +12,7 @@ use num::either;
 use work::{FIRST_TAIL, RECORD_FLOATS, SECOND_TAIL};
 
 // A candidate: its score, the cuts of the two tails, and the class that the block then has.
-#[derive(Drop)]
+#[derive(Clone, Copy)]
 pub struct Choice {
     pub rank: u32,
     pub level: f64,
@@ -23,7 +23,7 @@ pub struct Choice {
 }
 
 // The best candidate so far, and whether one so far was angled.
-#[derive(Drop)]
+#[derive(Clone, Copy)]
 pub struct Search {
     pub best: Choice,
     pub angled: bool,

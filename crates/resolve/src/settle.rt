@@ -19,7 +19,7 @@ use work::{
 };
 
 // SWAPs made renamings, candidates classified, and whether one of them was angled.
-#[derive(Drop)]
+#[derive(Clone, Copy)]
 pub struct Tally {
     pub swaps: usize,
     pub tried: usize,

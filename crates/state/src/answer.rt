@@ -1,6 +1,6 @@
 // What the state calls answer. Each case has its number, place and value in specs/Answers.antt.
 
-#[derive(Drop)]
+#[derive(Clone, Copy)]
 pub enum Refusal {
     BadState, // 16
     BadOperation, // 17
@@ -12,14 +12,14 @@ pub enum Refusal {
 }
 
 // Of a call that gives no number.
-#[derive(Drop)]
+#[derive(Clone, Copy)]
 pub enum Applied {
     Done,
     Refused(Refusal),
 }
 
 // Of a query.
-#[derive(Drop)]
+#[derive(Clone, Copy)]
 pub enum Answer {
     Value(f64),
     Refused(Refusal),

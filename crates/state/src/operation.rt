@@ -8,13 +8,13 @@ ghost use Rattle.state.specs.Parts.{HasHead};
 use real::{Map2, Map4, Real2, Real4};
 
 // The unit of an interaction's phase.
-#[derive(Drop)]
+#[derive(Clone, Copy)]
 pub struct Unit {
     pub re: f64,
     pub im: f64,
 }
 
-#[derive(Drop)]
+#[derive(Clone, Copy)]
 pub enum Operation {
     One {
         mode: usize,
@@ -32,13 +32,13 @@ pub enum Operation {
     },
 }
 
-#[derive(Drop)]
+#[derive(Clone, Copy)]
 pub enum Decoded {
     Good(Operation),
     Bad,
 }
 
-#[derive(Drop)]
+#[derive(Clone, Copy)]
 pub enum Mode {
     At(usize),
     Nowhere,

@@ -6,7 +6,7 @@ ghost use Rattle.state.specs.Answers.{refused, refusal, told, done};
 use super::answer::{Answer, Applied, Refusal};
 
 // The question whose answer is no, or 0; the place; the number asked for.
-#[derive(Drop)]
+#[derive(Clone, Copy)]
 pub struct Told {
     pub number: u64,
     pub place: u64,

@@ -63,7 +63,7 @@ pub fn is_mat4(m: Mat4, s: &[u8], at: usize) -> bool
 }
 
 // How many comparisons there are, and how many agree.
-#[derive(Drop)]
+#[derive(Clone, Copy)]
 pub struct Tally {
     pub right: u64,
     pub all: u64,

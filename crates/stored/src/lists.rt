@@ -54,7 +54,7 @@ pub fn word(s: &[u8], i: usize) -> u64 {
 }
 
 // A record of a list: its tag and where what follows the tag stands. Tag 0 where the list ends.
-#[derive(Drop)]
+#[derive(Clone, Copy)]
 pub struct Record {
     pub tag: u64,
     pub from: usize,
@@ -123,7 +123,7 @@ pub fn sized_at(s: &[u8], at: usize, before: usize) -> Record
 }
 
 // Where a record's tape stands, and where what follows the tape does; nowhere if the record has no tape.
-#[derive(Drop)]
+#[derive(Clone, Copy)]
 pub struct TapePart {
     pub there: bool,
     pub from: usize,

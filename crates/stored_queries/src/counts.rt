@@ -36,7 +36,7 @@ pub const ENTRIES: usize = NUMBERS * KINDS;
 pub type Counts = [u64; ENTRIES];
 
 // A comparison: where the first difference is.
-#[derive(Drop)]
+#[derive(Clone, Copy)]
 pub enum Compared {
     Same,
     Differs(usize),

@@ -7,7 +7,7 @@ const ZEROS: u8 = 0xf4;
 const WORD: u8 = 0xf5;
 
 // A word, where the next one begins, and how many zeros stand before that.
-#[derive(Drop)]
+#[derive(Clone, Copy)]
 struct Step {
     value: u64,
     at: usize,

@@ -10,7 +10,7 @@ use crate::codes::{floats_of, gate_length, qubits_of};
 
 // What stands at an offset: a gate and where the next record starts, a label and where its bytes
 // start and end (the next record starts there), the tape's end, or a refusal.
-#[derive(Drop)]
+#[derive(Clone, Copy)]
 pub enum Step {
     Gate { next: usize },
     Label { start: usize, end: usize },

@@ -1,0 +1,30 @@
+-- `pfaffian::pairs::eliminate_rows` meets its contract: each turn makes a row (`pair-more`). Assumes nothing.
+use Prim.Native.Nat.{◌≤◌, ◌-◌, ◌+◌}
+use native.Mathlib.Omega.{arith}
+use borrow.Author.Rules.{rules}
+use Rattle.laws.specs.Steps.{corner_from}
+use Rattle.laws.specs.Loops.{by_row}
+use Rattle.laws.proofs.Sweep.{sweep-start, sweep-done}
+use Rattle.laws.proofs.Eliminations.{Pair, pair-more, corner-low}
+use Rattle.pfaffian.specs.Turns.{less_by}
+use Rattle.pfaffian.proofs.pairs.eliminate_rows.Goals as goal
+
+pub loop-i-init : goal.loop-i-init
+loop-i-init c = (search rules, sweep-start by_row _ _ _ _ _ (corner-low _))
+
+pub loop-i-preserved : goal.loop-i-preserved
+loop-i-preserved c =
+    let t = c.before.before.before.before in
+    let l = t.loop-i in
+    let e = t.before.before.before in
+    let k = e.args.k in (
+      omega arith,
+      pair-more k less_by (corner_from (k + 2)) e.args.dim (corner-low (k + 2)) l.i e.args.a-1.now l.a-1 _ e.requires.room l.invariant.1
+          c.eliminate_row.ensures,
+    )
+
+pub shape_of-a : goal.shape_of-a
+shape_of-a c = c.loop-i.invariant.1.long
+
+pub returns : goal.returns
+returns c = sweep-done _ _ _ _ _ _ _ c.loop-i.invariant.1 (λ r' c' h g. omega arith)

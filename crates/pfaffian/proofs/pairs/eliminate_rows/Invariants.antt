@@ -1,0 +1,16 @@
+-- `pfaffian::pairs::eliminate_rows` meets its contract: each turn makes a row (`pair-more`). Assumes nothing.
+use Prim.Native.Nat.{◌≤◌, ◌-◌, ◌+◌}
+use native.Mathlib.Omega.{arith}
+use borrow.Author.Rules.{rules}
+use Rattle.laws.specs.Steps.{corner_from}
+use Rattle.laws.specs.Loops.{by_row}
+use Rattle.laws.proofs.Sweep.{sweep-start, sweep-done}
+use Rattle.laws.proofs.Eliminations.{Pair, pair-more, corner-low}
+use Rattle.pfaffian.specs.Turns.{less_by}
+use Rattle.pfaffian.proofs.pairs.eliminate_rows.Given as goal
+
+abbrev pub invariant-loop-i : goal.invariant-loop-i
+invariant-loop-i l = ((l.k + 2 ≤ l.i) × (l.i ≤ l.dim)) × Pair l.k less_by (corner_from (l.k + 2)) l.dim l.initial.a-1 l.i l.a-1
+
+abbrev pub decreases-loop-i : goal.decreases-loop-i
+decreases-loop-i l = l.dim - l.i

@@ -1,0 +1,30 @@
+-- `pfaffian::pairs::exchange_columns` meets its contract: each turn trades two entries (`cols-exchange-more`). Assumes nothing.
+use Prim.Native.Nat.{◌≤◌, ◌-◌}
+use native.Mathlib.Omega.{arith}
+use borrow.Author.Rules.{rules}
+use borrow.Author.Tests.{lt-leb}
+use Rattle.laws.specs.Steps.{rows_from}
+use Rattle.laws.specs.Loops.{by_row}
+use Rattle.laws.proofs.Loops.{made}
+use Rattle.laws.proofs.Sweep.{sweep-start}
+use Rattle.laws.proofs.Exchange.{ColsExchanged, cols-exchange-more}
+use Rattle.pfaffian.proofs.pairs.exchange_columns.Goals as goal
+
+pub loop-r-init : goal.loop-r-init
+loop-r-init c = (omega (arith, c.requires), sweep-start by_row (rows_from c.args.k) _ _ _ _ (λ r c h. lt-leb _ _ h))
+
+pub loop-r-preserved : goal.loop-r-preserved
+loop-r-preserved c =
+    let t = c.before.before.before.before in
+    let l = t.loop-r in
+    let e = t.before.before.before in (
+      omega (arith, l.invariant.0, t.loop-r-test.true),
+      cols-exchange-more e.args.p e.args.q e.args.k e.args.dim l.r e.args.a-1.now l.a-1 _ e.requires.inside.row e.requires.inside.col
+          l.invariant.0.0 t.loop-r-test.true e.requires.inside.room l.invariant.1 c.exchange.ensures,
+    )
+
+pub shape_of-a : goal.shape_of-a
+shape_of-a c = c.loop-r.invariant.1.long
+
+pub returns : goal.returns
+returns c = made by_row _ _ _ _ _ _ (λ r' c' h g. omega arith) c.loop-r.invariant.1

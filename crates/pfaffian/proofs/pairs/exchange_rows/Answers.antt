@@ -1,0 +1,30 @@
+-- `pfaffian::pairs::exchange_rows` meets its contract: each turn trades two entries (`rows-exchange-more`). Assumes nothing.
+use Prim.Native.Nat.{◌≤◌, ◌-◌}
+use native.Mathlib.Omega.{arith}
+use borrow.Author.Rules.{rules}
+use borrow.Author.Tests.{lt-leb}
+use Rattle.laws.specs.Steps.{cols_from}
+use Rattle.laws.specs.Loops.{by_col}
+use Rattle.laws.proofs.Loops.{made}
+use Rattle.laws.proofs.Sweep.{sweep-start}
+use Rattle.laws.proofs.Exchange.{RowsExchanged, rows-exchange-more}
+use Rattle.pfaffian.proofs.pairs.exchange_rows.Goals as goal
+
+pub loop-c-init : goal.loop-c-init
+loop-c-init c = (omega (arith, c.requires), sweep-start by_col (cols_from c.args.k) _ _ _ _ (λ r c h. lt-leb _ _ h))
+
+pub loop-c-preserved : goal.loop-c-preserved
+loop-c-preserved c =
+    let t = c.before.before.before.before in
+    let l = t.loop-c in
+    let e = t.before.before.before in (
+      omega (arith, l.invariant.0, t.loop-c-test.true),
+      rows-exchange-more e.args.p e.args.q e.args.k e.args.dim l.c e.args.a-1.now l.a-1 _ e.requires.inside.row e.requires.inside.col
+          l.invariant.0.0 t.loop-c-test.true e.requires.inside.room l.invariant.1 c.exchange.ensures,
+    )
+
+pub shape_of-a : goal.shape_of-a
+shape_of-a c = c.loop-c.invariant.1.long
+
+pub returns : goal.returns
+returns c = made by_col _ _ _ _ _ _ (λ r' c' h g. omega arith) c.loop-c.invariant.1

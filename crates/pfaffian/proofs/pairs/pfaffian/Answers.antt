@@ -1,0 +1,83 @@
+-- `pfaffian::pairs::pfaffian` meets its contract: what is left from pair k on gives what the whole gives (`pair_turn`). Assumes nothing.
+use mathlib.Core.Path.{◌≡◌, sym, ap, ◌∙◌}
+use mathlib.Core.Logic.{⊎_elim}
+use Prim.Native.Nat.{◌≤◌, ◌-◌, ◌+◌, ◌/◌, ◌%◌}
+use native.Mathlib.Nat.{sub-zero}
+use native.Mathlib.Omega.{arith}
+use borrow.Author.Rules.{rules}
+use borrow.Author.Tests.{eq-eqb, ne_eqb}
+use Rattle.laws.specs.Zeros.{+1}
+use Rattle.laws.specs.Matrix.{at}
+use Rattle.laws.proofs.Matrix.{same}
+use Rattle.laws.proofs.Zeros.{zero_bits, one-bits}
+use Rattle.pfaffian.specs.Work.{Kept}
+use Rattle.pfaffian.specs.Pfaffian.{pivot_of, pf, pfaffian_of}
+use Rattle.pfaffian.proofs.Congruent.{pivot-found}
+use Rattle.pfaffian.proofs.Pairing.{pair_turn, pair-stop, pair-done, pair-kept}
+use Rattle.pfaffian.proofs.pairs.pfaffian.Goals as goal
+
+-- ---- an odd dimension
+pub returns-then-dim-eq1 : goal.returns-then-dim-eq1
+unfolding pfaffian_of
+returns-then-dim-eq1 c =
+    record { value = rw (eq-eqb _ _ c.if-dim-eq1.true) zero_bits; kept = same _ _ }
+
+-- ---- the pairs
+pub loop-k-init : goal.loop-k-init
+loop-k-init c = (omega arith, same _ _, rw (sub-zero, one-bits))
+
+pub shape_of-a-then-found : goal.shape_of-a-then-found
+shape_of-a-then-found c = c.loop-k.invariant.1.long
+
+pub returns-then-found : goal.returns-then-found
+unfolding pfaffian_of
+returns-then-found c =
+    let l = c.loop-k in
+    let e = c.before.before.before.before.before.before.before.before in
+    let found = c.pivot-found.ensures.value in
+    record { value = rw (ne_eqb _ _ c.if-dim-eq1.false)
+          (pair-stop e.args.dim l.k l.a-1 l.pf c.loop-k-test.true l.invariant.0.1 _
+          (ap (λ s. s.0) found) c.if-found.true
+          ∙ l.invariant.2); kept = l.invariant.1 }
+
+-- the pivot stands after column k
+pub bring-requires : goal.bring-requires
+bring-requires c =
+    let v = c.before.before.before.before in
+    let t = v.before.before in
+    let l = t.loop-k in
+    let e = t.before.before.before.before in
+    let two : l.k + 2 ≤ e.args.dim = omega (arith, t.loop-k-test.true, l.invariant.0) in
+    let from = (pivot-found (at e.args.dim l.a-1 l.k) l.k e.args.dim two).from in
+    let p : v.pivot-found.result.piv ≡ (pivot_of (at e.args.dim l.a-1 l.k) l.k e.args.dim).1 = ap (λ s. s.1) v.pivot-found.ensures.value in
+    record { inside = search rules; k_le_p = omega (arith, from, p) }
+
+pub loop-k-preserved : goal.loop-k-preserved
+loop-k-preserved c =
+    let o = c.before.before.before.before.before.before.before.before.before.before in
+    let t = o.before.before.before.before.before in
+    let l = t.loop-k in
+    let e = t.before.before.before.before in
+    let found = o.pivot-found.ensures.value in
+    let brings = c.bring in
+    let lessens = c.eliminate in (
+      omega (arith, t.loop-k-test.true, l.invariant.0),
+      pair-kept e.args.dim l.k _ l.a-1 brings.new.0 lessens.new.0 _ _ brings.ensures lessens.ensures l.invariant.1,
+      pair_turn e.args.dim l.k l.a-1 l.pf t.loop-k-test.true l.invariant.0.1 _ _ brings.new.0 lessens.new.0
+          c.entry-pf.result o.if-piv-k.pf (ap (λ s. s.0) found) (ap (λ s. s.1) found) brings.ensures
+          lessens.ensures o.if-found.false c.entry-pf.ensures
+          (⊎_elim (λ w. w.1 ∙ rw (ne_eqb _ _ w.0.true)) (λ w. w.1 ∙ rw (eq-eqb _ _ w.0.left)) o.if-piv-k.branch)
+          ∙ l.invariant.2,
+    )
+
+-- ---- the end
+pub shape_of-a : goal.shape_of-a
+shape_of-a c = c.loop-k.invariant.1.long
+
+pub returns : goal.returns
+unfolding pfaffian_of
+returns c =
+    let l = c.loop-k in
+    let e = c.before.before.before.before in
+    record { value = rw (ne_eqb _ _ c.if-dim-eq1.false)
+          (sym (pair-done (at e.args.dim l.a-1) e.args.dim l.k l.pf c.loop-k-test.false) ∙ l.invariant.2); kept = l.invariant.1 }

@@ -1,0 +1,19 @@
+-- `pfaffian::pairs::pivot` meets its contract: what is left of the row gives what the whole row gives. Assumes nothing.
+use mathlib.Core.Path.{◌≡◌, sym, ap, ◌∙◌}
+use mathlib.Core.Logic.{⊎_elim}
+use Prim.Native.Nat.{◌≤◌, ◌<◌, ◌-◌, ◌+◌}
+use native.Mathlib.Omega.{arith}
+use borrow.Author.Rules.{rules}
+use Rattle.laws.specs.Matrix.{at}
+use Rattle.num.specs.Order.{abs_of}
+use Rattle.pfaffian.specs.Pfaffian.{pivot_of}
+use Rattle.pfaffian.specs.Pfaffian as pfaffian
+use Rattle.pfaffian.proofs.Pivots.{search-start, search-larger, search-smaller, search-done}
+use Rattle.pfaffian.proofs.pairs.pivot.Given as goal
+
+abbrev pub invariant-loop-j : goal.invariant-loop-j
+invariant-loop-j l =
+    ((l.k + 2 ≤ l.j) × (l.j ≤ l.dim)) × (l.piv < l.dim) × (pfaffian.search (at l.dim l.a l.k) (l.dim - l.j) l.j l.best l.piv ≡ pivot_of (at l.dim l.a l.k) l.k l.dim)
+
+abbrev pub decreases-loop-j : goal.decreases-loop-j
+decreases-loop-j l = l.dim - l.j

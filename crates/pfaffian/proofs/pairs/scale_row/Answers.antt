@@ -1,0 +1,28 @@
+-- `pfaffian::pairs::scale_row` meets its contract: each turn divides an entry (`scaled-more`). Assumes nothing.
+use Prim.Native.Nat.{◌≤◌, ◌-◌, ◌+◌}
+use native.Mathlib.Omega.{arith}
+use borrow.Author.Rules.{rules}
+use lib.Ieee.{binary64, div}
+use Rattle.laws.proofs.Sweep.{sweep-done}
+use Rattle.laws.proofs.Eliminations.{Scaled, cols-row-start, scaled-more}
+use Rattle.pfaffian.proofs.pairs.scale_row.Goals as goal
+
+pub loop-j-init : goal.loop-j-init
+loop-j-init c = (search rules, cols-row-start _ _ _ _ _)
+
+pub loop-j-preserved : goal.loop-j-preserved
+loop-j-preserved c =
+    let t = c.before.before.before.before.before.before in
+    let l = t.loop-j in
+    let e = t.before.before.before in (
+      omega arith,
+      scaled-more (λ x. div binary64 x e.args.akk) e.args.k (e.args.k + 2) e.args.dim l.j e.args.a-1.now l.a-1 _ _ (omega arith)
+          l.invariant.0.0 t.loop-j-test.true e.requires.room
+          (λ s. div binary64 (c.entry-x.ensures s) e.args.akk) l.invariant.1 c.put.ensures,
+    )
+
+pub shape_of-a : goal.shape_of-a
+shape_of-a c = c.loop-j.invariant.1.long
+
+pub returns : goal.returns
+returns c = sweep-done _ _ _ _ _ _ _ c.loop-j.invariant.1 (λ r' c' h g. omega arith)

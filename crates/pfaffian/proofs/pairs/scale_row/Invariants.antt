@@ -1,0 +1,14 @@
+-- `pfaffian::pairs::scale_row` meets its contract: each turn divides an entry (`scaled-more`). Assumes nothing.
+use Prim.Native.Nat.{◌≤◌, ◌-◌, ◌+◌}
+use native.Mathlib.Omega.{arith}
+use borrow.Author.Rules.{rules}
+use lib.Ieee.{binary64, div}
+use Rattle.laws.proofs.Sweep.{sweep-done}
+use Rattle.laws.proofs.Eliminations.{Scaled, cols-row-start, scaled-more}
+use Rattle.pfaffian.proofs.pairs.scale_row.Given as goal
+
+abbrev pub invariant-loop-j : goal.invariant-loop-j
+invariant-loop-j l = ((l.k + 2 ≤ l.j) × (l.j ≤ l.dim)) × Scaled (λ x. div binary64 x l.akk) l.k (l.k + 2) l.dim l.initial.a-1 l.j l.a-1
+
+abbrev pub decreases-loop-j : goal.decreases-loop-j
+decreases-loop-j l = l.dim - l.j

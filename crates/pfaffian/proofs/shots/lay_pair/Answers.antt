@@ -1,0 +1,10 @@
+-- `pfaffian::shots::lay_pair` meets its contract, by its test. Assumes nothing.
+use mathlib.Core.Path.{ap, ◌∙◌}
+use borrow.Author.Rules.{rules}
+use Rattle.pfaffian.specs.Turns.{laid}
+use Rattle.pfaffian.proofs.shots.lay_pair.Goals as goal
+
+pub returns-then-fresh : goal.returns-then-fresh
+returns-then-fresh c =
+    let r = c.before.before.before.before.before.before in
+    rw r.if-fresh.true (c.lay_row-then-fresh.ensures ∙ ap (laid _ _ _) r.lay_row.ensures)

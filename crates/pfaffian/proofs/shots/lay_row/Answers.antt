@@ -1,0 +1,27 @@
+-- `pfaffian::shots::lay_row` meets its contract: each turn copies an entry across the diagonal (`laid_more`). Assumes nothing.
+use Prim.Native.Nat.{◌≤◌, ◌-◌}
+use native.Mathlib.Omega.{arith}
+use borrow.Author.Rules.{rules}
+use lib.Ieee.{neg}
+use Rattle.laws.proofs.Sweep.{sweep-done}
+use Rattle.laws.proofs.Eliminations.{Laid, cols-row-start, laid_more}
+use Rattle.pfaffian.proofs.shots.lay_row.Goals as goal
+
+pub loop-e-init : goal.loop-e-init
+loop-e-init c = (search rules, cols-row-start _ _ _ _ _)
+
+pub loop-e-preserved : goal.loop-e-preserved
+loop-e-preserved c =
+    let t = c.before.before.before.before.before.before in
+    let l = t.loop-e in
+    let b = t.before.before.before in (
+      omega arith,
+      laid_more neg b.args.i b.args.s b.args.dim l.e b.args.m-1.now l.m-1 _ _ b.requires.i_lt_s.0 l.invariant.0.0 t.loop-e-test.true
+          b.requires.inside.room (λ x. neg (c.entry-x.ensures x)) l.invariant.1 c.put.ensures,
+    )
+
+pub shape_of-m : goal.shape_of-m
+shape_of-m c = c.loop-e.invariant.1.long
+
+pub returns : goal.returns
+returns c = sweep-done _ _ _ _ _ _ _ c.loop-e.invariant.1 (λ r' c' h g. omega arith)

@@ -1,0 +1,14 @@
+-- `pfaffian::shots::lay_row` meets its contract: each turn copies an entry across the diagonal (`laid_more`). Assumes nothing.
+use Prim.Native.Nat.{◌≤◌, ◌-◌}
+use native.Mathlib.Omega.{arith}
+use borrow.Author.Rules.{rules}
+use lib.Ieee.{neg}
+use Rattle.laws.proofs.Sweep.{sweep-done}
+use Rattle.laws.proofs.Eliminations.{Laid, cols-row-start, laid_more}
+use Rattle.pfaffian.proofs.shots.lay_row.Given as goal
+
+abbrev pub invariant-loop-e : goal.invariant-loop-e
+invariant-loop-e l = ((l.s ≤ l.e) × (l.e ≤ l.dim)) × Laid neg l.i l.s l.dim l.initial.m-1 l.e l.m-1
+
+abbrev pub decreases-loop-e : goal.decreases-loop-e
+decreases-loop-e l = l.dim - l.e

@@ -1,0 +1,51 @@
+-- `pfaffian::shots::measure_modes` meets its contract: the matrix stands for the one that mode k finds (`stands-turn`). Assumes nothing.
+use mathlib.Core.Path.{◌≡◌, ap, sym, ◌∙◌}
+use Prim.Native.Nat.{◌≤◌, ◌-◌, ◌+◌, ◌*◌}
+use native.Mathlib.Omega.{arith}
+use borrow.Author.Rules.{rules}
+use lib.ListN.{length, get_or, length-set}
+use lib.Ieee.{nan}
+use Rattle.laws.specs.Matrix.{at}
+use Rattle.laws.proofs.Matrix.{same}
+use Rattle.pfaffian.specs.Work.{Kept}
+use Rattle.pfaffian.specs.Shot.{shot, reached, draw_from}
+use Rattle.pfaffian.specs.Turns.{Stands, Listed}
+use Rattle.pfaffian.proofs.Keeping.{kept_then}
+use Rattle.pfaffian.proofs.Listing.{shot-at, stands-start, stands-turn, listed_start, listed-turn}
+use Rattle.pfaffian.proofs.shots.measure_modes.Goals as goal
+
+pub loop-k-init : goal.loop-k-init
+loop-k-init c = (omega arith, same _ _, stands-start _ _ _, listed_start _ _)
+
+pub measure-r-requires : goal.measure-r-requires
+measure-r-requires c = search rules
+
+pub loop-k-preserved : goal.loop-k-preserved
+loop-k-preserved c =
+    let t = c.before.before.before.before in
+    let l = t.loop-k in
+    let b = t.before.before.before.before.before in
+    let h = t.loop-k-test.true in
+    let r = c.measure-r in
+    let e = at (2 * b.args.n) b.args.m-1.now in
+    let d = draw_from b.args.draws.now b.args.first in
+    let w = stands-turn (2 * b.args.n) l.k e d _ l.fresh _ _ l.m-1 _
+    (ap (λ i. get_or b.args.draws.now i nan) l.invariant.0.1) l.invariant.2 r.ensures.plain in (
+      (omega arith, r.ensures.used ∙ rw l.invariant.0.1 (omega arith), length-set l.bits _ _ ∙ l.invariant.0.2),
+      kept_then _ _ l.m-1 _ l.invariant.1 r.ensures.kept,
+      w.1,
+      listed-turn l.k _ _ l.bits _ (omega arith) (w.0 ∙ sym (shot-at e d b.args.n l.k h)) l.invariant.3,
+    )
+
+pub shape_of-m : goal.shape_of-m
+shape_of-m c = c.loop-k.invariant.1.long
+
+pub shape_of-bits : goal.shape_of-bits
+shape_of-bits c = c.loop-k.invariant.0.2
+
+pub returns : goal.returns
+returns c =
+    let l = c.loop-k in
+    let b = c.before.before.before.before.before in
+    let z : l.k ≡ b.args.n = omega arith in
+    record { bits = rw z at l.invariant.3; kept = l.invariant.1 }

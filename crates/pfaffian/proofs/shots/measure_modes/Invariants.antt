@@ -1,0 +1,24 @@
+-- `pfaffian::shots::measure_modes` meets its contract: the matrix stands for the one that mode k finds (`stands-turn`). Assumes nothing.
+use mathlib.Core.Path.{◌≡◌, ap, sym, ◌∙◌}
+use Prim.Native.Nat.{◌≤◌, ◌-◌, ◌+◌, ◌*◌}
+use native.Mathlib.Omega.{arith}
+use borrow.Author.Rules.{rules}
+use lib.ListN.{length, get_or, length-set}
+use lib.Ieee.{nan}
+use Rattle.laws.specs.Matrix.{at}
+use Rattle.laws.proofs.Matrix.{same}
+use Rattle.pfaffian.specs.Work.{Kept}
+use Rattle.pfaffian.specs.Shot.{shot, reached, draw_from}
+use Rattle.pfaffian.specs.Turns.{Stands, Listed}
+use Rattle.pfaffian.proofs.Keeping.{kept_then}
+use Rattle.pfaffian.proofs.Listing.{shot-at, stands-start, stands-turn, listed_start, listed-turn}
+use Rattle.pfaffian.proofs.shots.measure_modes.Given as goal
+
+abbrev pub invariant-loop-k : goal.invariant-loop-k
+invariant-loop-k l =
+    ((l.k ≤ l.n) × (l.next ≡ l.first + l.k) × (length l.bits ≡ length l.initial.bits)) × Kept (2 * l.n) l.initial.m-1 l.m-1
+    × Stands (2 * l.n) l.k l.fresh (reached (at (2 * l.n) l.initial.m-1) (draw_from l.draws l.first) l.k) l.m-1
+    × Listed l.k (shot (at (2 * l.n) l.initial.m-1) 0 l.n (draw_from l.draws l.first)) l.initial.bits l.bits
+
+abbrev pub decreases-loop-k : goal.decreases-loop-k
+decreases-loop-k l = l.n - l.k

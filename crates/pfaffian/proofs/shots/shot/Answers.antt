@@ -1,0 +1,19 @@
+-- `pfaffian::shots::shot` meets its contract: what was listed are the outcomes, and each word is made of them. Assumes nothing.
+use mathlib.Core.Path.{◌∙◌}
+use Prim.Native.Nat.{◌*◌}
+use borrow.Author.Rules.{rules}
+use Rattle.laws.specs.Matrix.{at}
+use Rattle.laws.specs.Tables.{mode_at}
+use Rattle.pfaffian.specs.Shot.{shot, draw_from}
+use Rattle.pfaffian.proofs.Listing.{length-shot, listed-all, words_same}
+use Rattle.pfaffian.proofs.shots.shot.Goals as goal
+
+pub returns : goal.returns
+returns c =
+    let r = c.before.before.before.before.before.before.before in
+    let b = r.before.before.before.before.before.before in
+    let bits = r.measure_modes.new.1.1.1.1.0 in
+    let outcomes = shot (at (2 * b.args.n) b.args.m-1.now) 0 b.args.n (draw_from b.args.draws.now b.args.first) in
+    let same = words_same (mode_at b.args.modes.now) b.args.n outcomes bits
+    (listed-all b.args.n 128 outcomes bits (length-shot _ _ _ _) r.measure_modes.ensures.bits) in
+    record { words = (λ t. record { low = (c.word-low.ensures ∙ same 0 64) t; high = (c.word-high.ensures ∙ same 64 64) t }); kept = r.measure_modes.ensures.kept }

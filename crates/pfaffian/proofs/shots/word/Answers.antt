@@ -1,0 +1,45 @@
+-- `pfaffian::shots::word` meets its contract: from the highest bit down, each turn puts a bit below those above it. Assumes nothing.
+use mathlib.Core.Path.{◌≡◌, refl, ◌∙◌}
+use Prim.Native.Nat.{◌≤◌, ◌<◌, ◌-◌, ◌+◌, ◌^◌}
+use native.Mathlib.Nat.{le_trans}
+use native.Mathlib.Omega.{arith}
+use lib.Pow.{pow_mono}
+use borrow.Author.Rules.{rules}
+use Rattle.laws.specs.Tables.{mode_at}
+use Rattle.pfaffian.specs.Shot.{qubit_bit, word_of}
+use Rattle.pfaffian.proofs.Listing.{word-turn, word_below}
+use Rattle.pfaffian.proofs.shots.word.Goals as goal
+use Rattle.pfaffian.proofs.shots.word.Goals.{In-loop-i}
+
+pub loop-i-init : goal.loop-i-init
+unfolding word_of
+loop-i-init c = (omega arith, refl)
+
+-- there is room for one bit more
+room : (c : In-loop-i) → c.loop-i.w < 2 ^ 63
+room c =
+    let l = c.loop-i in
+    rw l.invariant.1 (le_trans (word_below _ _ (64 - l.i)) (pow_mono {j = 63} (omega arith)))
+
+pub overflow_mul-w : goal.overflow_mul-w
+overflow_mul-w c = omega (arith, room c.before)
+
+pub overflow_add-w : goal.overflow_add-w
+overflow_add-w c = omega (arith, room c.before, c.qubit_bit.ensures.bound)
+
+pub loop-i-preserved : goal.loop-i-preserved
+loop-i-preserved c =
+    let l = c.loop-i in
+    let e = c.before.before.before.before.before in (
+      omega arith,
+      rw (c.qubit_bit.ensures.value, l.invariant.1) (word-turn _ e.args.low 64 l.i c.loop-i-test.true l.invariant.0),
+    )
+
+pub returns : goal.returns
+returns c =
+    let l = c.loop-i in
+    let e = c.before.before.before.before in
+    let z : l.i ≡ 0 = omega arith in
+    let s : e.args.low + l.i ≡ e.args.low = omega arith in
+    let n : 64 - l.i ≡ 64 = omega arith in
+    l.invariant.1 ∙ (λ t. word_of (qubit_bit (mode_at e.args.modes.now) e.args.n e.args.bits.now) (s t) (n t))
