@@ -6,7 +6,5 @@ use Rattle.pfaffian.proofs.pairs.eliminate.Goals as goal
 
 pub returns : goal.returns
 returns c =
-    let r = c.before.before.before.before.before.before in
-    let e = r.before.before.before.before.before in
-    eliminated e.args.dim e.args.k e.args.a-1.now _ _ _ e.requires.band e.requires.room r.entry-akk.ensures
-    r.scale_row.ensures c.eliminate_rows.ensures
+    eliminated c.args.dim c.args.k c.args.a.now _ _ _ c.requires.band c.requires.room c.entry-akk.ensures
+    c.scale_row.ensures c.eliminate_rows.ensures

@@ -15,42 +15,36 @@ use Rattle.pfaffian.proofs.pairs.eliminate_row.Goals.{In-loop-x}
 
 pub loop-x-init : goal.loop-x-init
 loop-x-init c =
-    let e = c.before.before.before.before.before in
-    let n : e.args.k * e.args.dim + (e.args.k + 2) - e.args.k * e.args.dim ≡ e.args.k + 2 = omega arith in
-    (omega (arith, e.requires), rw n (corner-row-start _ _ _ _ _))
+    let n : c.args.k * c.args.dim + (c.args.k + 2) - c.args.k * c.args.dim ≡ c.args.k + 2 = omega arith in
+    (omega (arith, c.requires), rw n (corner-row-start _ _ _ _ _))
 
 -- where the turn's entries stand
-here : (c : In-loop-x) → let e = c.before.before.before.before.before.before.before in Walk e.args.dim e.args.k e.args.i c.loop-x.x
-here c = let e = c.before.before.before.before.before.before.before in walk e.args.dim e.args.k e.args.i c.loop-x.x e.requires.k_bound e.requires.inside.row c.loop-x.invariant.0.0 c.loop-x-test.true
+here : (c : In-loop-x) → Walk c.args.dim c.args.k c.args.i c.loop-x.x
+here c = walk c.args.dim c.args.k c.args.i c.loop-x.x c.requires.k_bound c.requires.inside.row c.loop-x.invariant.0.0 c.loop-x-test.true
 
 -- they are in the slice
 in-slice : (c : In-loop-x)
-    → let e = c.before.before.before.before.before.before.before in
-    let l = c.loop-x in (l.x + e.args.dim < length l.a) × (l.x + (e.args.i * e.args.dim - e.args.k * e.args.dim) < length l.a)
+    →    let l = c.loop-x in (l.x + c.args.dim < length l.a) × (l.x + (c.args.i * c.args.dim - c.args.k * c.args.dim) < length l.a)
 in-slice c =
-    let e = c.before.before.before.before.before.before.before in
     let w = (here c).room in
-    (omega (arith, w, c.loop-x.invariant.1.long, e.requires.inside.room), omega (arith, w, c.loop-x.invariant.1.long, e.requires.inside.room))
+    (omega (arith, w, c.loop-x.invariant.1.long, c.requires.inside.room), omega (arith, w, c.loop-x.invariant.1.long, c.requires.inside.room))
 
 pub loop-x-preserved : goal.loop-x-preserved
 loop-x-preserved c =
-    let t = c.before.before.before in
-    let l = t.loop-x in
-    let b = t.before.before in
-    let e = t.before.before.before.before.before.before.before in
-    let k = e.args.k in
-    let w = here t in
-    let n = l.x - k * e.args.dim in
-    let down = e.args.i * e.args.dim - k * e.args.dim in
-    let v = less_by (get_or l.a (l.x + down) nan) b.entry-ti.result (get_or l.a l.x nan) b.entry-rowi.result
-    (get_or l.a (l.x + e.args.dim) nan) in
+    let l = c.loop-x in
+    let k = c.args.k in
+    let w = here c.before.before.before in
+    let n = l.x - k * c.args.dim in
+    let down = c.args.i * c.args.dim - k * c.args.dim in
+    let v = less_by (get_or l.a (l.x + down) nan) c.entry-ti.result (get_or l.a l.x nan) c.entry-rowi.result
+    (get_or l.a (l.x + c.args.dim) nan) in
     let a' = set l.a (l.x + down) v in
-    let next : n + 1 ≡ l.x + 1 - k * e.args.dim = omega (arith, w.first) in (
-      omega (arith, t.loop-x-test.true, l.invariant.0),
-      subst (λ n. PairRow k less_by (corner_from (k + 2)) e.args.dim e.args.i e.args.a.now n a') next
-          (pair-row-more k less_by (corner_from (k + 2)) e.args.dim (corner-low (k + 2)) e.args.i n e.args.a.now l.a a' v
-          e.requires.inside.row w.below e.requires.inside.room (corner-on (k + 2) e.args.i n e.requires.k_bound w.low)
-          (λ s. less_by (get_or l.a (w.own s) nan) (b.entry-ti.ensures s) (get_or l.a (w.first s) nan) (b.entry-rowi.ensures s)
+    let next : n + 1 ≡ l.x + 1 - k * c.args.dim = omega (arith, w.first) in (
+      omega (arith, c.loop-x-test.true, l.invariant.0),
+      subst (λ n. PairRow k less_by (corner_from (k + 2)) c.args.dim c.args.i c.args.a.now n a') next
+          (pair-row-more k less_by (corner_from (k + 2)) c.args.dim (corner-low (k + 2)) c.args.i n c.args.a.now l.a a' v
+          c.requires.inside.row w.below c.requires.inside.room (corner-on (k + 2) c.args.i n c.requires.k_bound w.low)
+          (λ s. less_by (get_or l.a (w.own s) nan) (c.entry-ti.ensures s) (get_or l.a (w.first s) nan) (c.entry-rowi.ensures s)
           (get_or l.a (w.second s) nan))
           l.invariant.1 (λ s. set l.a (w.own s) v)),
     )
@@ -62,19 +56,19 @@ pub returns : goal.returns
 returns c = sweep-done _ _ _ _ _ _ _ c.loop-x.invariant.1 (λ r' c' h g. omega (arith, c.loop-x-test.false, c.loop-x.invariant.0))
 
 pub overflow_mul-top : goal.overflow_mul-top
-overflow_mul-top c = let e = c.before.before.before.before.before in omega (arith, rows_in e.args.dim e.args.k e.args.i e.requires.k_bound e.requires.inside.row, e.requires.inside.room)
+overflow_mul-top c = omega (arith, rows_in c.args.dim c.args.k c.args.i c.requires.k_bound c.requires.inside.row, c.requires.inside.room)
 
 pub overflow_mul-down : goal.overflow_mul-down
-overflow_mul-down c = let e = c.before.before.before.before.before in omega (arith, rows_in e.args.dim e.args.k e.args.i e.requires.k_bound e.requires.inside.row, e.requires.inside.room)
+overflow_mul-down c = omega (arith, rows_in c.args.dim c.args.k c.args.i c.requires.k_bound c.requires.inside.row, c.requires.inside.room)
 
 pub overflow_sub-down : goal.overflow_sub-down
-overflow_sub-down c = let e = c.before.before.before.before.before in (rows_in e.args.dim e.args.k e.args.i e.requires.k_bound e.requires.inside.row).1
+overflow_sub-down c = (rows_in c.args.dim c.args.k c.args.i c.requires.k_bound c.requires.inside.row).1
 
 pub overflow_add-end : goal.overflow_add-end
-overflow_add-end c = let e = c.before.before.before.before.before in omega (arith, rows_in e.args.dim e.args.k e.args.i e.requires.k_bound e.requires.inside.row, e.requires.inside.room)
+overflow_add-end c = omega (arith, rows_in c.args.dim c.args.k c.args.i c.requires.k_bound c.requires.inside.row, c.requires.inside.room)
 
 pub overflow_add-x-2 : goal.overflow_add-x-2
-overflow_add-x-2 c = let e = c.before.before.before.before.before in omega (arith, rows_in e.args.dim e.args.k e.args.i e.requires.k_bound e.requires.inside.row, e.requires.inside.room)
+overflow_add-x-2 c = omega (arith, rows_in c.args.dim c.args.k c.args.i c.requires.k_bound c.requires.inside.row, c.requires.inside.room)
 
 pub offset_bounds-a-x : goal.offset_bounds-a-x
 offset_bounds-a-x c = omega (arith, in-slice c)

@@ -14,12 +14,10 @@ loop-i-init c = (search rules, sweep-start by_row _ _ _ _ _ (corner-low _))
 
 pub loop-i-preserved : goal.loop-i-preserved
 loop-i-preserved c =
-    let t = c.before.before.before.before in
-    let l = t.loop-i in
-    let e = t.before.before.before in
-    let k = e.args.k in (
+    let l = c.loop-i in
+    let k = c.args.k in (
       omega arith,
-      pair-more k less_by (corner_from (k + 2)) e.args.dim (corner-low (k + 2)) l.i e.args.a-1.now l.a-1 _ e.requires.room l.invariant.1
+      pair-more k less_by (corner_from (k + 2)) c.args.dim (corner-low (k + 2)) l.i c.args.a.now l.a _ c.requires.room l.invariant.1
           c.eliminate_row.ensures,
     )
 

@@ -10,7 +10,7 @@ use Rattle.pfaffian.specs.Turns.{less_by}
 use Rattle.pfaffian.proofs.pairs.eliminate_rows.Given as goal
 
 abbrev pub invariant-loop-i : goal.invariant-loop-i
-invariant-loop-i l = ((l.k + 2 ≤ l.i) × (l.i ≤ l.dim)) × Pair l.k less_by (corner_from (l.k + 2)) l.dim l.initial.a-1 l.i l.a-1
+invariant-loop-i l = ((l.k + 2 ≤ l.i) × (l.i ≤ l.dim)) × Pair l.k less_by (corner_from (l.k + 2)) l.dim l.initial.a l.i l.a
 
 abbrev pub decreases-loop-i : goal.decreases-loop-i
 decreases-loop-i l = l.dim - l.i

@@ -11,7 +11,7 @@ use Rattle.laws.proofs.Exchange.{ColsExchanged, cols-exchange-more}
 use Rattle.pfaffian.proofs.pairs.exchange_columns.Given as goal
 
 abbrev pub invariant-loop-r : goal.invariant-loop-r
-invariant-loop-r l = ((l.k ≤ l.r) × (l.r ≤ l.dim)) × ColsExchanged l.p l.q l.k l.dim l.initial.a-1 l.r l.a-1
+invariant-loop-r l = ((l.k ≤ l.r) × (l.r ≤ l.dim)) × ColsExchanged l.p l.q l.k l.dim l.initial.a l.r l.a
 
 abbrev pub decreases-loop-r : goal.decreases-loop-r
 decreases-loop-r l = l.dim - l.r

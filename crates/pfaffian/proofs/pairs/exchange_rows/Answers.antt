@@ -15,12 +15,11 @@ loop-c-init c = (omega (arith, c.requires), sweep-start by_col (cols_from c.args
 
 pub loop-c-preserved : goal.loop-c-preserved
 loop-c-preserved c =
-    let t = c.before.before.before.before in
-    let l = t.loop-c in
-    let e = t.before.before.before in (
-      omega (arith, l.invariant.0, t.loop-c-test.true),
-      rows-exchange-more e.args.p e.args.q e.args.k e.args.dim l.c e.args.a-1.now l.a-1 _ e.requires.inside.row e.requires.inside.col
-          l.invariant.0.0 t.loop-c-test.true e.requires.inside.room l.invariant.1 c.exchange.ensures,
+    let l = c.loop-c in
+    (
+      omega (arith, l.invariant.0, c.loop-c-test.true),
+      rows-exchange-more c.args.p c.args.q c.args.k c.args.dim l.c c.args.a.now l.a _ c.requires.inside.row c.requires.inside.col
+          l.invariant.0.0 c.loop-c-test.true c.requires.inside.room l.invariant.1 c.exchange.ensures,
     )
 
 pub shape_of-a : goal.shape_of-a

@@ -11,7 +11,7 @@ use Rattle.laws.proofs.Exchange.{RowsExchanged, rows-exchange-more}
 use Rattle.pfaffian.proofs.pairs.exchange_rows.Given as goal
 
 abbrev pub invariant-loop-c : goal.invariant-loop-c
-invariant-loop-c l = ((l.k ≤ l.c) × (l.c ≤ l.dim)) × RowsExchanged l.p l.q l.k l.dim l.initial.a-1 l.c l.a-1
+invariant-loop-c l = ((l.k ≤ l.c) × (l.c ≤ l.dim)) × RowsExchanged l.p l.q l.k l.dim l.initial.a l.c l.a
 
 abbrev pub decreases-loop-c : goal.decreases-loop-c
 decreases-loop-c l = l.dim - l.c

@@ -33,40 +33,33 @@ pub returns-then-found : goal.returns-then-found
 unfolding pfaffian_of
 returns-then-found c =
     let l = c.loop-k in
-    let e = c.before.before.before.before.before.before.before.before in
     let found = c.pivot-found.ensures.value in
     record { value = rw (ne_eqb _ _ c.if-dim-eq1.false)
-          (pair-stop e.args.dim l.k l.a-1 l.pf c.loop-k-test.true l.invariant.0.1 _
+          (pair-stop c.args.dim l.k l.a l.pf c.loop-k-test.true l.invariant.0.1 _
           (ap (λ s. s.0) found) c.if-found.true
           ∙ l.invariant.2); kept = l.invariant.1 }
 
 -- the pivot stands after column k
 pub bring-requires : goal.bring-requires
 bring-requires c =
-    let v = c.before.before.before.before in
-    let t = v.before.before in
-    let l = t.loop-k in
-    let e = t.before.before.before.before in
-    let two : l.k + 2 ≤ e.args.dim = omega (arith, t.loop-k-test.true, l.invariant.0) in
-    let from = (pivot-found (at e.args.dim l.a-1 l.k) l.k e.args.dim two).from in
-    let p : v.pivot-found.result.piv ≡ (pivot_of (at e.args.dim l.a-1 l.k) l.k e.args.dim).1 = ap (λ s. s.1) v.pivot-found.ensures.value in
+    let l = c.loop-k in
+    let two : l.k + 2 ≤ c.args.dim = omega (arith, c.loop-k-test.true, l.invariant.0) in
+    let from = (pivot-found (at c.args.dim l.a l.k) l.k c.args.dim two).from in
+    let p : c.pivot-found.result.piv ≡ (pivot_of (at c.args.dim l.a l.k) l.k c.args.dim).1 = ap (λ s. s.1) c.pivot-found.ensures.value in
     record { inside = search rules; k_le_p = omega (arith, from, p) }
 
 pub loop-k-preserved : goal.loop-k-preserved
 loop-k-preserved c =
-    let o = c.before.before.before.before.before.before.before.before.before.before in
-    let t = o.before.before.before.before.before in
-    let l = t.loop-k in
-    let e = t.before.before.before.before in
-    let found = o.pivot-found.ensures.value in
+    let l = c.loop-k in
+    let found = c.pivot-found.ensures.value in
     let brings = c.bring in
     let lessens = c.eliminate in (
-      omega (arith, t.loop-k-test.true, l.invariant.0),
-      pair-kept e.args.dim l.k _ l.a-1 brings.new.0 lessens.new.0 _ _ brings.ensures lessens.ensures l.invariant.1,
-      pair_turn e.args.dim l.k l.a-1 l.pf t.loop-k-test.true l.invariant.0.1 _ _ brings.new.0 lessens.new.0
-          c.entry-pf.result o.if-piv-k.pf (ap (λ s. s.0) found) (ap (λ s. s.1) found) brings.ensures
-          lessens.ensures o.if-found.false c.entry-pf.ensures
-          (⊎_elim (λ w. w.1 ∙ rw (ne_eqb _ _ w.0.true)) (λ w. w.1 ∙ rw (eq-eqb _ _ w.0.left)) o.if-piv-k.branch)
+      omega (arith, c.loop-k-test.true, l.invariant.0),
+      pair-kept c.args.dim l.k _ l.a brings.new.0 lessens.new.0 _ _ brings.ensures lessens.ensures l.invariant.1,
+      pair_turn c.args.dim l.k l.a l.pf c.loop-k-test.true l.invariant.0.1 _ _ brings.new.0 lessens.new.0
+          c.entry-pf.result c.if-piv-k.pf (ap (λ s. s.0) found) (ap (λ s. s.1) found) brings.ensures
+          lessens.ensures c.if-found.false c.entry-pf.ensures
+          (⊎_elim (λ w. w.1 ∙ rw (ne_eqb _ _ w.0.true)) (λ w. w.1 ∙ rw (eq-eqb _ _ w.0.left)) c.if-piv-k.branch)
           ∙ l.invariant.2,
     )
 
@@ -78,6 +71,5 @@ pub returns : goal.returns
 unfolding pfaffian_of
 returns c =
     let l = c.loop-k in
-    let e = c.before.before.before.before in
     record { value = rw (ne_eqb _ _ c.if-dim-eq1.false)
-          (sym (pair-done (at e.args.dim l.a-1) e.args.dim l.k l.pf c.loop-k-test.false) ∙ l.invariant.2); kept = l.invariant.1 }
+          (sym (pair-done (at c.args.dim l.a) c.args.dim l.k l.pf c.loop-k-test.false) ∙ l.invariant.2); kept = l.invariant.1 }

@@ -18,7 +18,7 @@ use Rattle.pfaffian.proofs.pairs.pfaffian.Given as goal
 
 abbrev pub invariant-loop-k : goal.invariant-loop-k
 invariant-loop-k l =
-    ((l.k ≤ l.dim) × ((l.dim - l.k) % 2 ≡ 0)) × Kept l.dim l.initial.a-1 l.a-1 × (pf (at l.dim l.a-1) ((l.dim - l.k) / 2) l.k l.dim l.pf ≡ pf (at l.dim l.initial.a-1) (l.dim / 2) 0 l.dim +1)
+    ((l.k ≤ l.dim) × ((l.dim - l.k) % 2 ≡ 0)) × Kept l.dim l.initial.a l.a × (pf (at l.dim l.a) ((l.dim - l.k) / 2) l.k l.dim l.pf ≡ pf (at l.dim l.initial.a) (l.dim / 2) 0 l.dim +1)
 
 abbrev pub decreases-loop-k : goal.decreases-loop-k
 decreases-loop-k l = l.dim - l.k

@@ -17,15 +17,14 @@ loop-j-init c = (search rules, omega arith, rw (c.abs-best.ensures, c.entry.ensu
 pub loop-j-preserved : goal.loop-j-preserved
 loop-j-preserved c =
     let l = c.loop-j in
-    let e = c.before.before.before.before.before.before.before.before in
-    let row = at e.args.dim e.args.a.now e.args.k in
+    let row = at c.args.dim c.args.a.now c.args.k in
     let v = c.abs-v.result in
     let is = c.abs-v.ensures ∙ ap abs_of c.entry-in-loop-j.ensures in
     let h = c.loop-j-test.true in (
       omega arith,
       ⊎_elim (λ w. rw w.1 h) (λ w. rw w.1 l.invariant.1) c.if-v-best.branch,
-      ⊎_elim (λ w. rw (w.1, w.2) (search-larger row e.args.dim l.j l.piv l.best v h is w.0.true))
-          (λ w. rw (w.1, w.2) (search-smaller row e.args.dim l.j l.piv l.best v h is w.0.left)) c.if-v-best.branch
+      ⊎_elim (λ w. rw (w.1, w.2) (search-larger row c.args.dim l.j l.piv l.best v h is w.0.true))
+          (λ w. rw (w.1, w.2) (search-smaller row c.args.dim l.j l.piv l.best v h is w.0.left)) c.if-v-best.branch
           ∙ l.invariant.2,
     )
 

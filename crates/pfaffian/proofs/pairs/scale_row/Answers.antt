@@ -12,13 +12,12 @@ loop-j-init c = (search rules, cols-row-start _ _ _ _ _)
 
 pub loop-j-preserved : goal.loop-j-preserved
 loop-j-preserved c =
-    let t = c.before.before.before.before.before.before in
-    let l = t.loop-j in
-    let e = t.before.before.before in (
+    let l = c.loop-j in
+    (
       omega arith,
-      scaled-more (λ x. div binary64 x e.args.akk) e.args.k (e.args.k + 2) e.args.dim l.j e.args.a-1.now l.a-1 _ _ (omega arith)
-          l.invariant.0.0 t.loop-j-test.true e.requires.room
-          (λ s. div binary64 (c.entry-x.ensures s) e.args.akk) l.invariant.1 c.put.ensures,
+      scaled-more (λ x. div binary64 x c.args.akk) c.args.k (c.args.k + 2) c.args.dim l.j c.args.a.now l.a _ _ (omega arith)
+          l.invariant.0.0 c.loop-j-test.true c.requires.room
+          (λ s. div binary64 (c.entry-x.ensures s) c.args.akk) l.invariant.1 c.put.ensures,
     )
 
 pub shape_of-a : goal.shape_of-a

@@ -8,7 +8,7 @@ use Rattle.laws.proofs.Eliminations.{Scaled, cols-row-start, scaled-more}
 use Rattle.pfaffian.proofs.pairs.scale_row.Given as goal
 
 abbrev pub invariant-loop-j : goal.invariant-loop-j
-invariant-loop-j l = ((l.k + 2 ≤ l.j) × (l.j ≤ l.dim)) × Scaled (λ x. div binary64 x l.akk) l.k (l.k + 2) l.dim l.initial.a-1 l.j l.a-1
+invariant-loop-j l = ((l.k + 2 ≤ l.j) × (l.j ≤ l.dim)) × Scaled (λ x. div binary64 x l.akk) l.k (l.k + 2) l.dim l.initial.a l.j l.a
 
 abbrev pub decreases-loop-j : goal.decreases-loop-j
 decreases-loop-j l = l.dim - l.j

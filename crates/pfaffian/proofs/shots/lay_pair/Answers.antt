@@ -6,5 +6,4 @@ use Rattle.pfaffian.proofs.shots.lay_pair.Goals as goal
 
 pub returns-then-fresh : goal.returns-then-fresh
 returns-then-fresh c =
-    let r = c.before.before.before.before.before.before in
-    rw r.if-fresh.true (c.lay_row-then-fresh.ensures ∙ ap (laid _ _ _) r.lay_row.ensures)
+    rw c.if-fresh.true (c.lay_row-then-fresh.ensures ∙ ap (laid _ _ _) c.lay_row.ensures)

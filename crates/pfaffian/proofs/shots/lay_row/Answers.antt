@@ -12,12 +12,11 @@ loop-e-init c = (search rules, cols-row-start _ _ _ _ _)
 
 pub loop-e-preserved : goal.loop-e-preserved
 loop-e-preserved c =
-    let t = c.before.before.before.before.before.before in
-    let l = t.loop-e in
-    let b = t.before.before.before in (
+    let l = c.loop-e in
+    (
       omega arith,
-      laid_more neg b.args.i b.args.s b.args.dim l.e b.args.m-1.now l.m-1 _ _ b.requires.i_lt_s.0 l.invariant.0.0 t.loop-e-test.true
-          b.requires.inside.room (λ x. neg (c.entry-x.ensures x)) l.invariant.1 c.put.ensures,
+      laid_more neg c.args.i c.args.s c.args.dim l.e c.args.m.now l.m _ _ c.requires.i_lt_s.0 l.invariant.0.0 c.loop-e-test.true
+          c.requires.inside.room (λ x. neg (c.entry-x.ensures x)) l.invariant.1 c.put.ensures,
     )
 
 pub shape_of-m : goal.shape_of-m

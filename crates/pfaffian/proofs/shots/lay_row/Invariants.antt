@@ -8,7 +8,7 @@ use Rattle.laws.proofs.Eliminations.{Laid, cols-row-start, laid_more}
 use Rattle.pfaffian.proofs.shots.lay_row.Given as goal
 
 abbrev pub invariant-loop-e : goal.invariant-loop-e
-invariant-loop-e l = ((l.s ≤ l.e) × (l.e ≤ l.dim)) × Laid neg l.i l.s l.dim l.initial.m-1 l.e l.m-1
+invariant-loop-e l = ((l.s ≤ l.e) × (l.e ≤ l.dim)) × Laid neg l.i l.s l.dim l.initial.m l.e l.m
 
 abbrev pub decreases-loop-e : goal.decreases-loop-e
 decreases-loop-e l = l.dim - l.e

@@ -22,19 +22,17 @@ measure-r-requires c = search rules
 
 pub loop-k-preserved : goal.loop-k-preserved
 loop-k-preserved c =
-    let t = c.before.before.before.before in
-    let l = t.loop-k in
-    let b = t.before.before.before.before.before in
-    let h = t.loop-k-test.true in
+    let l = c.loop-k in
+    let h = c.loop-k-test.true in
     let r = c.measure-r in
-    let e = at (2 * b.args.n) b.args.m-1.now in
-    let d = draw_from b.args.draws.now b.args.first in
-    let w = stands-turn (2 * b.args.n) l.k e d _ l.fresh _ _ l.m-1 _
-    (ap (λ i. get_or b.args.draws.now i nan) l.invariant.0.1) l.invariant.2 r.ensures.plain in (
+    let e = at (2 * c.args.n) c.args.m.now in
+    let d = draw_from c.args.draws.now c.args.first in
+    let w = stands-turn (2 * c.args.n) l.k e d _ l.fresh _ _ l.m _
+    (ap (λ i. get_or c.args.draws.now i nan) l.invariant.0.1) l.invariant.2 r.ensures.plain in (
       (omega arith, r.ensures.used ∙ rw l.invariant.0.1 (omega arith), length-set l.bits _ _ ∙ l.invariant.0.2),
-      kept_then _ _ l.m-1 _ l.invariant.1 r.ensures.kept,
+      kept_then _ _ l.m _ l.invariant.1 r.ensures.kept,
       w.1,
-      listed-turn l.k _ _ l.bits _ (omega arith) (w.0 ∙ sym (shot-at e d b.args.n l.k h)) l.invariant.3,
+      listed-turn l.k _ _ l.bits _ (omega arith) (w.0 ∙ sym (shot-at e d c.args.n l.k h)) l.invariant.3,
     )
 
 pub shape_of-m : goal.shape_of-m
@@ -46,6 +44,5 @@ shape_of-bits c = c.loop-k.invariant.0.2
 pub returns : goal.returns
 returns c =
     let l = c.loop-k in
-    let b = c.before.before.before.before.before in
-    let z : l.k ≡ b.args.n = omega arith in
+    let z : l.k ≡ c.args.n = omega arith in
     record { bits = rw z at l.invariant.3; kept = l.invariant.1 }

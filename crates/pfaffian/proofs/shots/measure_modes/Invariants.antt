@@ -16,9 +16,9 @@ use Rattle.pfaffian.proofs.shots.measure_modes.Given as goal
 
 abbrev pub invariant-loop-k : goal.invariant-loop-k
 invariant-loop-k l =
-    ((l.k ≤ l.n) × (l.next ≡ l.first + l.k) × (length l.bits ≡ length l.initial.bits)) × Kept (2 * l.n) l.initial.m-1 l.m-1
-    × Stands (2 * l.n) l.k l.fresh (reached (at (2 * l.n) l.initial.m-1) (draw_from l.draws l.first) l.k) l.m-1
-    × Listed l.k (shot (at (2 * l.n) l.initial.m-1) 0 l.n (draw_from l.draws l.first)) l.initial.bits l.bits
+    ((l.k ≤ l.n) × (l.next ≡ l.first + l.k) × (length l.bits ≡ length l.initial.bits)) × Kept (2 * l.n) l.initial.m l.m
+    × Stands (2 * l.n) l.k l.fresh (reached (at (2 * l.n) l.initial.m) (draw_from l.draws l.first) l.k) l.m
+    × Listed l.k (shot (at (2 * l.n) l.initial.m) 0 l.n (draw_from l.draws l.first)) l.initial.bits l.bits
 
 abbrev pub decreases-loop-k : goal.decreases-loop-k
 decreases-loop-k l = l.n - l.k

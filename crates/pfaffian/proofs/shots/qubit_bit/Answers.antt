@@ -8,19 +8,15 @@ use Rattle.pfaffian.proofs.shots.qubit_bit.Goals as goal
 
 pub returns-then-bits-k : goal.returns-then-bits-k
 returns-then-bits-k c =
-    let r = c.before.before.before in
-    record { value = rw (lt-ltb _ _ r.if-q-n.true, ← r.wide_index-k.ensures, c.if-bits-k.true); bound = omega arith }
+    record { value = rw (lt-ltb _ _ c.if-q-n.true, ← c.wide_index-k.ensures, c.if-bits-k.true); bound = omega arith }
 
 pub returns-else-bits-k : goal.returns-else-bits-k
 returns-else-bits-k c =
-    let r = c.before.before.before in
-    record { value = rw (lt-ltb _ _ r.if-q-n.true, ← r.wide_index-k.ensures, c.if-bits-k.false); bound = omega arith }
+    record { value = rw (lt-ltb _ _ c.if-q-n.true, ← c.wide_index-k.ensures, c.if-bits-k.false); bound = omega arith }
 
 pub returns-else-k-bits : goal.returns-else-k-bits
 returns-else-k-bits c =
-    let r = c.before in
-    let b = r.before.before.before.before.before in
-    record { value = rw (lt-ltb _ _ r.if-q-n.true, ← r.wide_index-k.ensures, get_or-eq_default b.args.bits.now false c.if-k-bits.false); bound = omega arith }
+    record { value = rw (lt-ltb _ _ c.if-q-n.true, ← c.wide_index-k.ensures, get_or-eq_default c.args.bits.now false c.if-k-bits.false); bound = omega arith }
 
 pub returns-else-q-n : goal.returns-else-q-n
 returns-else-q-n c =

@@ -10,10 +10,8 @@ use Rattle.pfaffian.proofs.shots.shot.Goals as goal
 
 pub returns : goal.returns
 returns c =
-    let r = c.before.before.before.before.before.before.before in
-    let b = r.before.before.before.before.before.before in
-    let bits = r.measure_modes.new.1.1.1.1.0 in
-    let outcomes = shot (at (2 * b.args.n) b.args.m-1.now) 0 b.args.n (draw_from b.args.draws.now b.args.first) in
-    let same = words_same (mode_at b.args.modes.now) b.args.n outcomes bits
-    (listed-all b.args.n 128 outcomes bits (length-shot _ _ _ _) r.measure_modes.ensures.bits) in
-    record { words = (λ t. record { low = (c.word-low.ensures ∙ same 0 64) t; high = (c.word-high.ensures ∙ same 64 64) t }); kept = r.measure_modes.ensures.kept }
+    let bits = c.measure_modes.new.1.1.1.1.0 in
+    let outcomes = shot (at (2 * c.args.n) c.args.m.now) 0 c.args.n (draw_from c.args.draws.now c.args.first) in
+    let same = words_same (mode_at c.args.modes.now) c.args.n outcomes bits
+    (listed-all c.args.n 128 outcomes bits (length-shot _ _ _ _) c.measure_modes.ensures.bits) in
+    record { words = (λ t. record { low = (c.word-low.ensures ∙ same 0 64) t; high = (c.word-high.ensures ∙ same 64 64) t }); kept = c.measure_modes.ensures.kept }

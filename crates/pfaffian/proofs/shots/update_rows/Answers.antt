@@ -17,20 +17,18 @@ loop-c-init c = (search rules, sweep-start by_row _ _ _ _ _ (right-low _))
 
 pub loop-c-preserved : goal.loop-c-preserved
 loop-c-preserved c =
-    let t = c.before.before.before.before in
-    let l = t.loop-c in
-    let e = t.before.before.before in
-    let dim = e.args.dim in
-    let a = e.args.a in
-    let f = e.args.f in
+    let l = c.loop-c in
+    let dim = c.args.dim in
+    let a = c.args.a in
+    let f = c.args.f in
     let low = right-low (a + 2) in
-    let m₀ = e.args.m-1.now in
-    let one = measured_row dim a f l.c l.m-1 in
+    let m₀ = c.args.m.now in
+    let one = measured_row dim a f l.c l.m in
     let two : l.c + 1 + 1 ≡ l.c + 2 = omega arith in (
       omega arith,
       subst (λ n. Pair a (projected_by f) (right_from (a + 2)) dim m₀ n c.update_two.new.0) two
-          (pair-more a (projected_by f) (right_from (a + 2)) dim low (l.c + 1) m₀ one _ e.requires.room
-          (pair-more a (projected_by f) (right_from (a + 2)) dim low l.c m₀ l.m-1 one e.requires.room l.invariant.1 refl)
+          (pair-more a (projected_by f) (right_from (a + 2)) dim low (l.c + 1) m₀ one _ c.requires.room
+          (pair-more a (projected_by f) (right_from (a + 2)) dim low l.c m₀ l.m one c.requires.room l.invariant.1 refl)
           c.update_two.ensures),
     )
 
@@ -40,7 +38,6 @@ shape_of-m c = c.loop-c.invariant.1.long
 pub returns : goal.returns
 returns c =
     let l = c.loop-c in
-    let e = c.before.before.before in
-    let dim = e.args.dim in
-    last_row (e.args.a + 2) (by_pair e.args.a (projected_by e.args.f) (at dim e.args.m-1.now)) dim l.c e.args.m-1.now l.m-1
+    let dim = c.args.dim in
+    last_row (c.args.a + 2) (by_pair c.args.a (projected_by c.args.f) (at dim c.args.m.now)) dim l.c c.args.m.now l.m
     (omega (arith, c.loop-c-test)) l.invariant.1

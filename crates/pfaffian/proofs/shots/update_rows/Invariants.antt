@@ -13,7 +13,7 @@ use Rattle.pfaffian.proofs.TwoRows.{last_row}
 use Rattle.pfaffian.proofs.shots.update_rows.Given as goal
 
 abbrev pub invariant-loop-c : goal.invariant-loop-c
-invariant-loop-c l = ((l.a + 2 ≤ l.c) × (l.c ≤ l.dim)) × Pair l.a (projected_by l.f) (right_from (l.a + 2)) l.dim l.initial.m-1 l.c l.m-1
+invariant-loop-c l = ((l.a + 2 ≤ l.c) × (l.c ≤ l.dim)) × Pair l.a (projected_by l.f) (right_from (l.a + 2)) l.dim l.initial.m l.c l.m
 
 abbrev pub decreases-loop-c : goal.decreases-loop-c
 decreases-loop-c l = l.dim - l.c

@@ -13,7 +13,7 @@ use Rattle.pfaffian.proofs.shots.update_two.Given as goal
 
 abbrev pub invariant-loop-e : goal.invariant-loop-e
 invariant-loop-e l =
-    ((l.c + 2 ≤ l.e) × (l.e ≤ l.dim)) × TwoRows l.a (projected_by l.f) l.dim l.c (set l.initial.m-1 (l.c * l.dim + (l.c + 1)) l.between) l.e l.m-1
+    ((l.c + 2 ≤ l.e) × (l.e ≤ l.dim)) × TwoRows l.a (projected_by l.f) l.dim l.c (set l.initial.m (l.c * l.dim + (l.c + 1)) l.between) l.e l.m
 
 abbrev pub decreases-loop-e : goal.decreases-loop-e
 decreases-loop-e l = l.dim - l.e

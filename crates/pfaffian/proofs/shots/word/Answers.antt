@@ -30,16 +30,15 @@ overflow_add-w c = omega (arith, room c.before, c.qubit_bit.ensures.bound)
 pub loop-i-preserved : goal.loop-i-preserved
 loop-i-preserved c =
     let l = c.loop-i in
-    let e = c.before.before.before.before.before in (
+    (
       omega arith,
-      rw (c.qubit_bit.ensures.value, l.invariant.1) (word-turn _ e.args.low 64 l.i c.loop-i-test.true l.invariant.0),
+      rw (c.qubit_bit.ensures.value, l.invariant.1) (word-turn _ c.args.low 64 l.i c.loop-i-test.true l.invariant.0),
     )
 
 pub returns : goal.returns
 returns c =
     let l = c.loop-i in
-    let e = c.before.before.before.before in
     let z : l.i ≡ 0 = omega arith in
-    let s : e.args.low + l.i ≡ e.args.low = omega arith in
+    let s : c.args.low + l.i ≡ c.args.low = omega arith in
     let n : 64 - l.i ≡ 64 = omega arith in
-    l.invariant.1 ∙ (λ t. word_of (qubit_bit (mode_at e.args.modes.now) e.args.n e.args.bits.now) (s t) (n t))
+    l.invariant.1 ∙ (λ t. word_of (qubit_bit (mode_at c.args.modes.now) c.args.n c.args.bits.now) (s t) (n t))

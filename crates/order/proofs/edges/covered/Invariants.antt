@@ -1,0 +1,19 @@
+use mathlib.Core.List.{List}
+use mathlib.Core.Path.{◌≡◌, ap, ◌∙◌}
+use Prim.Native.Nat.{◌+◌, ◌*◌, ◌-◌, ◌≤◌}
+use native.Mathlib.Omega.{arith}
+use borrow.Author.Rules.{rules}
+use Rattle.laws.specs.Views.{up_from}
+use Rattle.work.specs.Columns.{pos_column}
+use Rattle.work.specs.Marks.{column}
+use Rattle.order.specs.declared.edges.Edge.{Edge}
+use Rattle.order.specs.Slice.{edge_at}
+use Rattle.order.specs.Choice.{covered_by}
+use Rattle.order.proofs.Sums.{covered_none, covered_more, up-all}
+use Rattle.order.proofs.edges.covered.Given as goal
+
+abbrev pub invariant-loop-i : goal.invariant-loop-i
+invariant-loop-i l = (l.i ≤ l.m) × (l.s ≡ covered_by (up_from (edge_at l.u) l.i (l.m - l.i)) (column pos_column l.u)) × (l.s + 0x1_0000_0000 * l.i ≤ 0x1_0000_0000 * l.m)
+
+abbrev pub decreases-loop-i : goal.decreases-loop-i
+decreases-loop-i l = l.i

@@ -1,0 +1,10 @@
+use mathlib.Core.Path.{◌∙◌}
+use native.Mathlib.Omega.{arith}
+use Rattle.order.proofs.EdgeSteps.{Tallying, unchain-below, tally-start, tally-from, tally-loads, tally-below, tally-more, tally-ends}
+use Rattle.order.proofs.edges.tally.Given as goal
+
+abbrev pub invariant-loop-i : goal.invariant-loop-i
+invariant-loop-i l = Tallying l.initial.u l.u l.g l.n l.m l.i
+
+abbrev pub decreases-loop-i : goal.decreases-loop-i
+decreases-loop-i l = l.i

@@ -1,0 +1,16 @@
+use mathlib.Core.Path.{◌≡◌, ap, ◌∙◌}
+use Prim.Native.Nat.{◌+◌, ◌*◌, ◌-◌, ◌≤◌}
+use native.Mathlib.Omega.{arith}
+use borrow.Author.Rules.{rules}
+use Rattle.laws.specs.Views.{up_from}
+use Rattle.order.specs.declared.edges.Edge.{Edge}
+use Rattle.order.specs.Slice.{edge_at}
+use Rattle.order.specs.Weights.{weighs_of}
+use Rattle.order.proofs.Sums.{weighs-none, weighs-more, up-all}
+use Rattle.order.proofs.edges.weighs.Given as goal
+
+abbrev pub invariant-loop-i : goal.invariant-loop-i
+invariant-loop-i l = (l.i ≤ l.m) × (l.s ≡ weighs_of (up_from (edge_at l.u) l.i (l.m - l.i))) × (l.s + 0x1_0000_0000 * l.i ≤ 0x1_0000_0000 * l.m)
+
+abbrev pub decreases-loop-i : goal.decreases-loop-i
+decreases-loop-i l = l.i
