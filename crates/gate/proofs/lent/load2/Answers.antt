@@ -4,4 +4,4 @@ use borrow.Author.Rules.{rules}
 use Rattle.gate.proofs.lent.load2.Goals as goal
 
 pub returns : goal.returns
-returns c = rw c.Load-row.ensures
+returns c = rw c.load_row-row.ensures

@@ -74,22 +74,22 @@ pub offset_bounds-a-x : goal.offset_bounds-a-x
 offset_bounds-a-x c = omega (arith, in-slice c)
 
 pub bounds-a-x : goal.bounds-a-x
-bounds-a-x c = omega (arith, in-slice c.before)
+bounds-a-x c = omega (arith, in-slice c.before.before)
 
 pub overflow_add-rowj : goal.overflow_add-rowj
-overflow_add-rowj c = omega (arith, in-slice c.before)
+overflow_add-rowj c = omega (arith, in-slice c.before.before)
 
 pub offset_bounds-a-x-in-loop-x : goal.offset_bounds-a-x-in-loop-x
-offset_bounds-a-x-in-loop-x c = omega (arith, in-slice c.before)
+offset_bounds-a-x-in-loop-x c = omega (arith, in-slice c.before.before)
 
 pub bounds-a-x-in-loop-x : goal.bounds-a-x-in-loop-x
-bounds-a-x-in-loop-x c = omega (arith, in-slice c.before.before)
+bounds-a-x-in-loop-x c = omega (arith, in-slice c.before.before.before)
 
 pub overflow_add-old : goal.overflow_add-old
-overflow_add-old c = omega (arith, in-slice c.before.before)
+overflow_add-old c = omega (arith, in-slice c.before.before.before)
 
 pub offset_bounds-a-x-in-loop-x-2 : goal.offset_bounds-a-x-in-loop-x-2
-offset_bounds-a-x-in-loop-x-2 c = omega (arith, in-slice c.before.before)
+offset_bounds-a-x-in-loop-x-2 c = omega (arith, in-slice c.before.before.before)
 
 pub bounds-a-x-in-loop-x-2 : goal.bounds-a-x-in-loop-x-2
 bounds-a-x-in-loop-x-2 c = omega (arith, in-slice c.before.before.before)

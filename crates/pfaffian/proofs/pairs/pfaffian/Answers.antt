@@ -15,6 +15,7 @@ use Rattle.pfaffian.specs.Pfaffian.{pivot_of, pf, pfaffian_of}
 use Rattle.pfaffian.proofs.Congruent.{pivot-found}
 use Rattle.pfaffian.proofs.Pairing.{pair_turn, pair-stop, pair-done, pair-kept}
 use Rattle.pfaffian.proofs.pairs.pfaffian.Goals as goal
+use Rattle.pfaffian.proofs.pairs.pfaffian.Goals.{then-piv-k, else-piv-k}
 
 -- ---- an odd dimension
 pub returns-then-dim-eq1 : goal.returns-then-dim-eq1
@@ -55,11 +56,11 @@ loop-k-preserved c =
     let brings = c.bring in
     let lessens = c.eliminate in (
       omega (arith, c.loop-k-test.true, l.invariant.0),
-      pair-kept c.args.dim l.k _ l.a brings.new.0 lessens.new.0 _ _ brings.ensures lessens.ensures l.invariant.1,
-      pair_turn c.args.dim l.k l.a l.pf c.loop-k-test.true l.invariant.0.1 _ _ brings.new.0 lessens.new.0
+      pair-kept c.args.dim l.k _ l.a brings.new.a lessens.new.a _ _ brings.ensures lessens.ensures l.invariant.1,
+      pair_turn c.args.dim l.k l.a l.pf c.loop-k-test.true l.invariant.0.1 _ _ brings.new.a lessens.new.a
           c.entry-pf.result c.if-piv-k.pf (ap (λ s. s.0) found) (ap (λ s. s.1) found) brings.ensures
           lessens.ensures c.if-found.false c.entry-pf.ensures
-          (⊎_elim (λ w. w.1 ∙ rw (ne_eqb _ _ w.0.true)) (λ w. w.1 ∙ rw (eq-eqb _ _ w.0.left)) c.if-piv-k.branch)
+          (elim c.if-piv-k.branch [ then-piv-k w ↦ w.pf-is ∙ rw (ne_eqb _ _ w.if-piv-k.true) | else-piv-k w ↦ w.pf-is ∙ rw (eq-eqb _ _ w.if-piv-k.false) ])
           ∙ l.invariant.2,
     )
 

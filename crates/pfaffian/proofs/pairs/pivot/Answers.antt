@@ -10,6 +10,7 @@ use Rattle.pfaffian.specs.Pfaffian.{pivot_of}
 use Rattle.pfaffian.specs.Pfaffian as pfaffian
 use Rattle.pfaffian.proofs.Pivots.{search-start, search-larger, search-smaller, search-done}
 use Rattle.pfaffian.proofs.pairs.pivot.Goals as goal
+use Rattle.pfaffian.proofs.pairs.pivot.Goals.{then-v-best, else-v-best}
 
 pub loop-j-init : goal.loop-j-init
 loop-j-init c = (search rules, omega arith, rw (c.abs-best.ensures, c.entry.ensures) (search-start _ _ _))
@@ -22,10 +23,11 @@ loop-j-preserved c =
     let is = c.abs-v.ensures ∙ ap abs_of c.entry-in-loop-j.ensures in
     let h = c.loop-j-test.true in (
       omega arith,
-      ⊎_elim (λ w. rw w.1 h) (λ w. rw w.1 l.invariant.1) c.if-v-best.branch,
-      ⊎_elim (λ w. rw (w.1, w.2) (search-larger row c.args.dim l.j l.piv l.best v h is w.0.true))
-          (λ w. rw (w.1, w.2) (search-smaller row c.args.dim l.j l.piv l.best v h is w.0.left)) c.if-v-best.branch
-          ∙ l.invariant.2,
+      elim c.if-v-best.branch [ then-v-best w ↦ rw w.piv-is h | else-v-best w ↦ rw w.piv-is l.invariant.1 ],
+      elim c.if-v-best.branch [
+        then-v-best w ↦ rw (w.piv-is, w.best-is) (search-larger row c.args.dim l.j l.piv l.best v h is w.if-v-best.true)
+      | else-v-best w ↦ rw (w.piv-is, w.best-is) (search-smaller row c.args.dim l.j l.piv l.best v h is w.if-v-best.false)
+      ] ∙ l.invariant.2,
     )
 
 pub returns : goal.returns

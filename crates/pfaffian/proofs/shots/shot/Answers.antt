@@ -10,7 +10,7 @@ use Rattle.pfaffian.proofs.shots.shot.Goals as goal
 
 pub returns : goal.returns
 returns c =
-    let bits = c.measure_modes.new.1.1.1.1.0 in
+    let bits = c.measure_modes.new.bits in
     let outcomes = shot (at (2 * c.args.n) c.args.m.now) 0 c.args.n (draw_from c.args.draws.now c.args.first) in
     let same = words_same (mode_at c.args.modes.now) c.args.n outcomes bits
     (listed-all c.args.n 128 outcomes bits (length-shot _ _ _ _) c.measure_modes.ensures.bits) in

@@ -26,7 +26,7 @@ loop-c-preserved c =
     let one = measured_row dim a f l.c l.m in
     let two : l.c + 1 + 1 ≡ l.c + 2 = omega arith in (
       omega arith,
-      subst (λ n. Pair a (projected_by f) (right_from (a + 2)) dim m₀ n c.update_two.new.0) two
+      subst (λ n. Pair a (projected_by f) (right_from (a + 2)) dim m₀ n c.update_two.new.m) two
           (pair-more a (projected_by f) (right_from (a + 2)) dim low (l.c + 1) m₀ one _ c.requires.room
           (pair-more a (projected_by f) (right_from (a + 2)) dim low l.c m₀ l.m one c.requires.room l.invariant.1 refl)
           c.update_two.ensures),

@@ -1,6 +1,6 @@
 -- `pfaffian::shots::word` meets its contract: from the highest bit down, each turn puts a bit below those above it. Assumes nothing.
 use mathlib.Core.Path.{◌≡◌, refl, ◌∙◌}
-use Prim.Native.Nat.{◌≤◌, ◌<◌, ◌-◌, ◌+◌, ◌^◌}
+use Prim.Native.Nat.{ℕ, ◌≤◌, ◌<◌, ◌-◌, ◌+◌, ◌^◌}
 use native.Mathlib.Nat.{le_trans}
 use native.Mathlib.Omega.{arith}
 use lib.Pow.{pow_mono}
@@ -16,16 +16,14 @@ unfolding word_of
 loop-i-init c = (omega arith, refl)
 
 -- there is room for one bit more
-room : (c : In-loop-i) → c.loop-i.w < 2 ^ 63
-room c =
-    let l = c.loop-i in
-    rw l.invariant.1 (le_trans (word_below _ _ (64 - l.i)) (pow_mono {j = 63} (omega arith)))
+room : (bit : ℕ → ℕ) (low i w : ℕ) → 0 < i → w ≡ word_of bit (low + i) (64 - i) → w < 2 ^ 63
+room bit low i w h e = rw e (le_trans (word_below _ _ (64 - i)) (pow_mono {j = 63} (omega arith)))
 
 pub overflow_mul-w : goal.overflow_mul-w
-overflow_mul-w c = omega (arith, room c.before)
+overflow_mul-w c = omega (arith, room _ _ c.loop-i.i _ c.loop-i-test.true c.loop-i.invariant.1)
 
 pub overflow_add-w : goal.overflow_add-w
-overflow_add-w c = omega (arith, room c.before, c.qubit_bit.ensures.bound)
+overflow_add-w c = omega (arith, room _ _ c.loop-i.i _ c.loop-i-test.true c.loop-i.invariant.1, c.qubit_bit.ensures.bound)
 
 pub loop-i-preserved : goal.loop-i-preserved
 loop-i-preserved c =
