@@ -2,10 +2,9 @@
 -- Assumes nothing.
 use Rattle.majorana.specs.Majorana.{coefficient4_of, coefficients4_of}
 use Rattle.majorana.proofs.Entries.{majorana0-is, majorana1-is, majorana2-is, majorana3-is}
-use Rattle.majorana.proofs.two_modes.coefficients.Statement.{statement}
-use Rattle.majorana.proofs.two_modes.coefficients.Tie as tie
+use Rattle.majorana.proofs.two_modes.coefficients.Goals as goal
 
-returns : tie.Need-returns
+pub returns : goal.returns
 unfolding coefficients4_of coefficient4_of
 returns c =
     rw (
@@ -13,11 +12,8 @@ returns c =
       majorana1-is,
       majorana2-is,
       majorana3-is,
-      c.trace4.ensures,
-      c.before.trace3.ensures,
-      c.before.before.trace2.ensures,
-      c.before.before.before.trace.ensures,
+      c.trace-x3.ensures,
+      c.trace-x2.ensures,
+      c.trace-x1.ensures,
+      c.trace-x0.ensures,
     )
-
-pub coefficients-spec : {M : Type 1} → statement M
-coefficients-spec = tie.close (tie.spec (λ c κs. tt) (λ c κs. tt) (λ c κs. tt) (λ c κs. tt) returns)
