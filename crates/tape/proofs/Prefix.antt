@@ -24,7 +24,7 @@ use Rattle.tape.specs.Parse.{Parsed, refused, accepted, with_gate, with_label, a
 use Rattle.tape.specs.declared.header.Header.{Header}
 use Rattle.tape.specs.declared.header.Headed.TheVariants as Head
 use Rattle.tape.specs.declared.record.Step.{Step}
-use Rattle.tape.specs.declared.record.Step.TheVariants.{Gate, Label, End, Refused}
+use Rattle.tape.specs.declared.record.Step.TheVariants.{Label, End, Refused}
 use Rattle.tape.specs.declared.gates.Gate as Gates
 use Rattle.tape.specs.declared.labels.Span.{Span}
 use Rattle.tape.proofs.CodeLaws.{qubits-few, gate-parts, gate-longest}

@@ -1,6 +1,5 @@
 -- `named::table::matrix_1q` meets its contract: the constant array is the definition's list, and the index lies within it.
 -- Assumes nothing.
-use borrow.Author.Rules.{rules}
 use Rattle.named.specs.Table.{matrix1q_of, one_qubit}
 use Rattle.gate.specs.Matrix.{id2}
 use Rattle.laws.proofs.Slices.{get_d_any}

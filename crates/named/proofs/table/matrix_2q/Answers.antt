@@ -2,7 +2,6 @@
 -- Assumes nothing.
 use Prim.Native.Nat.{◌-◌}
 use native.Mathlib.Omega.{arith}
-use borrow.Author.Rules.{rules}
 use Rattle.named.specs.Table.{matrix2q_of, two_qubit, gate_cnot}
 use Rattle.laws.proofs.Slices.{get_d_any}
 use Rattle.named.proofs.table.matrix_2q.Goals as goal
