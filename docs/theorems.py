@@ -25,7 +25,7 @@ BOXES = {
     "local": (316, 355, 138, "apply, a map", ["step, settled, later"], "local/specs/Apply.antt"),
     "tape": (20, 470, 138, "tape: parse", ["gates-good, gates-few,", "parse-prefix"], "tape/proofs/*.antt"),
     "classify": (168, 470, 138, "classes", ["angled-is,", "rotation-is-map"], "classify/proofs/*.antt"),
-    "num": (316, 470, 138, "numbers", ["root-is, root-unique,", "sqrt-max"], "num/proofs/*.antt"),
+    "num": (316, 470, 138, "numbers", ["root_is, root-unique,", "sqrt-max"], "num/proofs/*.antt"),
     # promise 4
     "signs": (640, 50, 145, "Promise 4: the signs", ["signs, signs-in-slices,", "signs-by-calls"], "signs/proofs/Signs.antt"),
     "lost": (795, 50, 145, "four lost turns", ["refused, own-effect,", "own-answers"], "signs/proofs/Refused.antt"),

@@ -24,7 +24,7 @@ CALLS = {
 }
 THEOREMS = [("engines", "Engines"), ("signs", "Signs"), ("signs", "Engines")]
 
-USE = re.compile(r"^(?:ghost )?use Rattle·([a-z_0-9]+)(?:·(?:specs|proofs))?\.(specs|proofs)\.([A-Za-z0-9_.-]+?)(?:\.\{([^}]*)\}| as (\S+))?;?$")
+USE = re.compile(r"^(?:ghost )?use Rattle\.([a-z_0-9]+)\.(specs|proofs)\.([A-Za-z0-9_.-]+?)(?:\.\{([^}]*)\}| as (\S+))?;?$")
 CALL = re.compile(r"^pub (?:extern \"C\" )?fn ([a-z_0-9]+)\(.*?^\{$", re.M | re.S)
 DEFINES = re.compile(r"^ *(?:abbrev |unfoldable )?(?:pub )?(?:record |data )?(\S+) .*(?::|where)", re.M)
 WORD = re.compile(r"[^\s(){},.;⌜⌝]+")
@@ -51,7 +51,7 @@ def uses(text):
 
 def spoken(name):
     """The words by which a text speaks of a definition: of an operator, its sign."""
-    return {part for part in name.split("_") if part} or {name}
+    return {part for part in name.split("◌") if part} or {name}
 
 
 def definitions(text):
