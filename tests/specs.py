@@ -126,7 +126,7 @@ def main():
     faults = []
     for key, text in sorted(found.items()):
         path, sentence = path_of(key), PROMISE if key in carrying else INNER
-        faults += [f"{path} reaches into proofs: {use[0]}.{use[2]}" for use in uses(text) if use[1] == "proofs"]
+        faults += [f"{path} reaches into proofs: {use[0]}.{use[2]}" for use in uses(text) if use[1] == "proofs" and use[0] != "std"]
         right = with_sentence(text, sentence)
         if right != text and "--fix" in sys.argv:
             open(path, "w", encoding="utf-8").write(right)
