@@ -15,9 +15,9 @@ BOXES = {
     "calls": (20, 50, 582, "Promises 1 and 2: every call for users", ["jozkeral_…: ensures (Tells, Reports); print_tape: ensures end, text"],
               "engine/src/states.rt, tapes.rt; text/src/print.rt"),
     "compile": (20, 150, 138, "compile", ["answer, work, marks,", "ops"], "detect/src/questions.rt"),
-    "run": (168, 150, 286, "run", ["answer, work, marks, ops, state:", "ran, ranWork, .., ranState"], "gaussian/src/engine.rt, gaussian/specs/Run.antt"),
+    "run": (168, 150, 286, "run", ["answer, work, marks, ops, state:", "ran, ran_work, .., ran_state"], "gaussian/src/engine.rt, gaussian/specs/Run.antt"),
     "asks": (464, 150, 138, "queries", ["ensures, each"], "queries/src/*.rt"),
-    "report": (20, 260, 286, "report, work, operations", ["detect, lend, emit_all: ensures; asked, programOf"], "detect/src/*.rt, detect/specs/Questions.antt"),
+    "report": (20, 260, 286, "report, work, operations", ["detect, lend, emit_all: ensures; asked, program_of"], "detect/src/*.rt, detect/specs/Questions.antt"),
     "evolve": (316, 260, 138, "evolve", ["evolved-written"], "evolve/proofs/Evolving.antt"),
     "pfaffian": (464, 260, 138, "Pfaffian, shot", ["ensures, each"], "pfaffian/src/*.rt"),
     "order": (20, 355, 138, "order", ["order-permutes,", "chosen-inverse,", "rank-mode"], "order/proofs/*.antt"),
@@ -29,7 +29,7 @@ BOXES = {
     # promise 4
     "signs": (640, 50, 145, "Promise 4: the signs", ["signs, signs-in-slices,", "signs-by-calls"], "signs/proofs/Signs.antt"),
     "lost": (795, 50, 145, "four lost turns", ["refused, own-effect,", "own-answers"], "signs/proofs/Refused.antt"),
-    "pulled": (640, 160, 145, "circuits", ["run-holds, slice-holds"], "signs/proofs/Runs.antt"),
+    "pulled": (640, 160, 145, "circuits", ["run_holds, slice-holds"], "signs/proofs/Runs.antt"),
     "zprod": (795, 160, 145, "products of Z", ["z-product"], "signs/proofs/ZProducts.antt"),
     "steps": (640, 260, 145, "one block", ["step-holds"], "signs/proofs/Steps.antt"),
     "odd": (795, 260, 145, "who turns", ["float-odd, later"], "signs/proofs/*.antt"),
@@ -52,7 +52,7 @@ BOXES = {
     "follows": (640, 980, 145, "items and register", ["tape-follows"], "register/proofs/Tapes.antt"),
     "fits": (330, 1075, 300, "register blocks, by computation", ["residual-fits, moves-basis, classify-fits,", "classify-unfit, classify-swapped"],
              "monomial/proofs/*.antt"),
-    "keeps": (640, 1075, 300, "fusing, in any monoid", ["fused-keeps, compressed-keeps"], "register/proofs/*.antt"),
+    "keeps": (640, 1075, 300, "fusing, in any monoid", ["fused_keeps, compressed-keeps"], "register/proofs/*.antt"),
 }
 
 ARROWS = """

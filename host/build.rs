@@ -1,4 +1,4 @@
-//! Links the engine's archive: the one that ENGINE_ARCHIVE names, or that of `rt staticlib engine`.
+//! Links the engine's archive: the one that ENGINE_ARCHIVE names, or that of `host/staticlib.sh engine`.
 
 use std::path::{Path, PathBuf};
 
@@ -8,7 +8,7 @@ fn main() {
     let archive = std::env::var_os("ENGINE_ARCHIVE").map(PathBuf::from).unwrap_or(built);
     assert!(
         archive.ends_with("libengine.a") && archive.is_file(),
-        "{} is missing: run `rt staticlib engine`, or name libengine.a with ENGINE_ARCHIVE",
+        "{} is missing: run `host/staticlib.sh engine`, or name libengine.a with ENGINE_ARCHIVE",
         archive.display()
     );
     println!("cargo:rerun-if-changed={}", archive.display());

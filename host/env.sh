@@ -11,11 +11,13 @@ fail() {
     exit 2
 }
 
-# Whether a file is there and newer than every one of the others, and of what is in them.
+# Whether a file is there and newer than every one of the others, and of what is in them. What checks keep in out/ does not count, nor
+# a crate's own folder, which changes with it.
 newer() {
     made=$1
     shift
-    [ -f "$made" ] && [ -z "$(find "$@" -newer "$made" | head -n 1)" ]
+    [ -f "$made" ] && [ -z "$(find "$@" -name out -prune -o ! -path '*/crates/*' -newer "$made" -print -o \
+        \( -type f -o -path '*/crates/*/*' \) -newer "$made" -print | head -n 1)" ]
 }
 
 # Proves the engine and writes its library, unless that is newer than every source.
@@ -25,7 +27,7 @@ build_library() {
     fi
     command -v rt >/dev/null || fail "the Rattle kit (rt) is needed to prove the engine and build its library"
     echo "jozkeral: proving the engine and building its library; from nothing this takes some ten minutes" >&2
-    (cd "$ROOT" && rt staticlib engine) >&2 || fail "the library could not be built"
+    "$ROOT/host/staticlib.sh" engine >&2 || fail "the library could not be built"
     touch "$ARCHIVE"
 }
 

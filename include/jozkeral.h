@@ -1,7 +1,7 @@
 /*
  * Jozkeral: a proved simulator for free-fermion (matchgate) circuits. The C interface.
  *
- * `rt staticlib engine` writes target/staticlib/libengine.a (x86-64 Linux). It needs nothing but the C library:
+ * `host/staticlib.sh engine` writes target/staticlib/libengine.a (x86-64 Linux). It needs nothing but the C library:
  *
  *     cc -I include program.c target/staticlib/libengine.a
  *

@@ -41,7 +41,7 @@ build_bench() {
         (. "$ROOT/host/env.sh" && build_library)
     fi
     if [ -z "${LEAVES_ARCHIVE:-}" ] && ! [ "$leaves" -nt "$engine" ]; then
-        (cd "$ROOT" && rt staticlib leaves)
+        "$ROOT/host/staticlib.sh" leaves
         touch "$leaves"
     fi
     LEAVES_ARCHIVE=${LEAVES_ARCHIVE:-$leaves}

@@ -44,8 +44,8 @@ fn put2(m: &mut [f64], dim: usize, r: usize, c: usize, x: f64, y: f64)
 // In the columns c and c + 1 the map's rows, from s on, are put under the map. All is read before the first
 // store, and stored by rows, so that the compiler takes both columns at once.
 fn map_columns2(m: &mut [f64], dim: usize, s: usize, c: usize, q: Map2)
-    requires holds { Holds m.old dim s 2 }
-    requires holds_2 { Holds m.old dim c 2 }
+    requires map_rows { Holds m.old dim s 2 }
+    requires columns { Holds m.old dim c 2 }
     ensures { m.new ≡ column_turn (local2 s q) dim (c + 1) (column_turn (local2 s q) dim c m.old) }
 {
     let v = mapped2(q, column2(m, dim, s, c));

@@ -52,8 +52,8 @@ loop-i-preserved c =
     let P : ℕ → ℕ → Type 0 = λ r q. Turn a (l.top % 2 ^ 52 * 4) r q (l.i + 1) in
     let more = c.loop-i-test.true in
     elim c.if-t-d.branch [
-      then-t-d w ↦ subst₂ P (sym w.rem-is) (sym w.q-is) (one-digit a l.top l.rem l.q l.i l.invariant more w.if-t-d.true)
-    | else-t-d w ↦ subst₂ P (sym w.rem-is) (sym w.q-is) (zero-digit a l.top l.rem l.q l.i l.invariant more w.if-t-d.false)
+      | then-t-d w ↦ subst₂ P (sym w.rem-is) (sym w.q-is) (one-digit a l.top l.rem l.q l.i l.invariant more w.if-t-d.true)
+      | else-t-d w ↦ subst₂ P (sym w.rem-is) (sym w.q-is) (zero-digit a l.top l.rem l.q l.i l.invariant more w.if-t-d.false)
     ]
 
 pub returns : goal.returns

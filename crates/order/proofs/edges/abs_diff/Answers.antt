@@ -1,6 +1,5 @@
 use native.Mathlib.Omega.{arith}
 use borrow.Author.Tests.{lt-ltb, le-ltb}
-use borrow.Author.Rules.{rules}
 use Rattle.order.proofs.edges.abs_diff.Goals as goal
 
 pub returns-then-a-b : goal.returns-then-a-b

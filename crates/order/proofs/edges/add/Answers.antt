@@ -1,5 +1,4 @@
 use native.Mathlib.Omega.{arith}
-use borrow.Author.Rules.{rules}
 use Rattle.order.proofs.Chains.{found-few}
 use Rattle.order.proofs.EdgeSteps.{add-grows, add-appends}
 use Rattle.order.proofs.edges.add.Goals as goal

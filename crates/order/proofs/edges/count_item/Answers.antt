@@ -1,6 +1,5 @@
 use mathlib.Core.Path.{sym, ◌∙◌}
 use native.Mathlib.Omega.{arith}
-use borrow.Author.Rules.{rules}
 use Rattle.order.proofs.EdgeSteps.{pair-turned, pair-straight, count-skips, count-adds}
 use Rattle.order.proofs.edges.count_item.Goals as goal
 

@@ -1,9 +1,7 @@
 use mathlib.Core.List.{List}
-use mathlib.Core.Path.{◌≡◌, ap, ◌∙◌}
-use Prim.Native.Nat.{◌+◌, ◌*◌, ◌-◌, ◌≤◌}
+use mathlib.Core.Path.{ap, ◌∙◌}
+use Prim.Native.Nat.{◌-◌}
 use native.Mathlib.Omega.{arith}
-use borrow.Author.Rules.{rules}
-use Rattle.laws.specs.Views.{up_from}
 use Rattle.work.specs.Columns.{pos_column}
 use Rattle.work.specs.Marks.{column}
 use Rattle.order.specs.declared.edges.Edge.{Edge}

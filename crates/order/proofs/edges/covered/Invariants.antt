@@ -1,15 +1,10 @@
-use mathlib.Core.List.{List}
-use mathlib.Core.Path.{◌≡◌, ap, ◌∙◌}
+use mathlib.Core.Path.{◌≡◌}
 use Prim.Native.Nat.{◌+◌, ◌*◌, ◌-◌, ◌≤◌}
-use native.Mathlib.Omega.{arith}
-use borrow.Author.Rules.{rules}
 use Rattle.laws.specs.Views.{up_from}
 use Rattle.work.specs.Columns.{pos_column}
 use Rattle.work.specs.Marks.{column}
-use Rattle.order.specs.declared.edges.Edge.{Edge}
 use Rattle.order.specs.Slice.{edge_at}
 use Rattle.order.specs.Choice.{covered_by}
-use Rattle.order.proofs.Sums.{covered_none, covered_more, up-all}
 use Rattle.order.proofs.edges.covered.Given as goal
 
 abbrev pub invariant-loop-i : goal.invariant-loop-i

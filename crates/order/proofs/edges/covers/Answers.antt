@@ -1,6 +1,5 @@
 use mathlib.Core.Path.{ap}
 use native.Mathlib.Omega.{arith}
-use borrow.Author.Rules.{rules}
 use Rattle.work.specs.Columns.{pos_column}
 use Rattle.work.specs.Marks.{column}
 use Rattle.order.specs.declared.edges.Edge.{Edge}

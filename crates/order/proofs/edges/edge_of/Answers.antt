@@ -1,7 +1,7 @@
 use mathlib.Core.Path.{sym, ◌∙◌}
 use native.Mathlib.Omega.{arith}
 use borrow.Author.Rules.{rules}
-use Rattle.order.proofs.Chains.{Walks, walk_start, walk-hits, walk_more, walk-falls, walk_ends}
+use Rattle.order.proofs.Chains.{walk_start, walk-hits, walk_more, walk-falls, walk_ends}
 use Rattle.order.proofs.edges.edge_of.Goals as goal
 
 pub mark-p-requires : goal.mark-p-requires

@@ -1,4 +1,3 @@
-use borrow.Author.Rules.{rules}
 use Rattle.order.proofs.edges.grow.Goals as goal
 
 pub returns : goal.returns

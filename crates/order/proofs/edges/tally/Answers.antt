@@ -1,6 +1,6 @@
 use mathlib.Core.Path.{◌∙◌}
 use native.Mathlib.Omega.{arith}
-use Rattle.order.proofs.EdgeSteps.{Tallying, unchain-below, tally-start, tally-from, tally-loads, tally-below, tally-more, tally-ends}
+use Rattle.order.proofs.EdgeSteps.{unchain-below, tally-start, tally-from, tally-loads, tally-below, tally-more, tally-ends}
 use Rattle.order.proofs.edges.tally.Goals as goal
 
 pub unchain-requires : goal.unchain-requires
@@ -21,11 +21,14 @@ count_item-m-requires c =
     let s = t.only.size ∙ unchain.ensures.only.size in
     let few = t.few in
     let low = t.low in
-    record { records = (omega arith, omega arith, omega arith, omega arith); cases = (
+    record {
+      records = (omega arith, omega arith, omega arith, omega arith);
+      cases = (
         tally-below _ _ _ _ _ _ t (omega arith) (unchain-below _ _ _ _ unchain.ensures pre.3),
         tally-loads _ _ _ _ _ _ t (omega arith) pre.2,
         t.chain,
-      ) }
+      );
+    }
 
 pub loop-i-smaller : goal.loop-i-smaller
 loop-i-smaller c = omega arith

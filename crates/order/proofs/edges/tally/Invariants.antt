@@ -1,6 +1,4 @@
-use mathlib.Core.Path.{◌∙◌}
-use native.Mathlib.Omega.{arith}
-use Rattle.order.proofs.EdgeSteps.{Tallying, unchain-below, tally-start, tally-from, tally-loads, tally-below, tally-more, tally-ends}
+use Rattle.order.proofs.EdgeSteps.{Tallying}
 use Rattle.order.proofs.edges.tally.Given as goal
 
 abbrev pub invariant-loop-i : goal.invariant-loop-i

@@ -1,5 +1,4 @@
 use mathlib.Core.Path.{◌≡◌, subst}
-use Prim.Native.Nat.{◌-◌, ◌≤◌}
 use native.Mathlib.Omega.{arith}
 use Rattle.order.specs.Slice.{Unchained}
 use Rattle.order.proofs.Chains.{unchain-start, unchain-more}

@@ -1,8 +1,5 @@
-use mathlib.Core.Path.{◌≡◌, subst}
 use Prim.Native.Nat.{◌-◌, ◌≤◌}
-use native.Mathlib.Omega.{arith}
 use Rattle.order.specs.Slice.{Unchained}
-use Rattle.order.proofs.Chains.{unchain-start, unchain-more}
 use Rattle.order.proofs.edges.unchain.Given as goal
 
 abbrev pub invariant-loop-w : goal.invariant-loop-w

@@ -1,8 +1,5 @@
-use mathlib.Core.Path.{◌≡◌, ap, ◌∙◌}
-use Prim.Native.Nat.{◌+◌, ◌*◌, ◌-◌, ◌≤◌}
+use mathlib.Core.Path.{ap, ◌∙◌}
 use native.Mathlib.Omega.{arith}
-use borrow.Author.Rules.{rules}
-use Rattle.laws.specs.Views.{up_from}
 use Rattle.order.specs.declared.edges.Edge.{Edge}
 use Rattle.order.specs.Slice.{edge_at}
 use Rattle.order.specs.Weights.{weighs_of}

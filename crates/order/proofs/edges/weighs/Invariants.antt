@@ -1,12 +1,8 @@
-use mathlib.Core.Path.{◌≡◌, ap, ◌∙◌}
+use mathlib.Core.Path.{◌≡◌}
 use Prim.Native.Nat.{◌+◌, ◌*◌, ◌-◌, ◌≤◌}
-use native.Mathlib.Omega.{arith}
-use borrow.Author.Rules.{rules}
 use Rattle.laws.specs.Views.{up_from}
-use Rattle.order.specs.declared.edges.Edge.{Edge}
 use Rattle.order.specs.Slice.{edge_at}
 use Rattle.order.specs.Weights.{weighs_of}
-use Rattle.order.proofs.Sums.{weighs-none, weighs-more, up-all}
 use Rattle.order.proofs.edges.weighs.Given as goal
 
 abbrev pub invariant-loop-i : goal.invariant-loop-i

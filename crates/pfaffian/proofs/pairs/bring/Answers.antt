@@ -1,7 +1,6 @@
 -- `pfaffian::pairs::bring` meets its contract, whether there is anything to exchange or not. Assumes nothing.
 use Prim.Native.Nat.{◌+◌}
 use native.Mathlib.Omega.{arith}
-use borrow.Author.Rules.{rules}
 use Rattle.pfaffian.proofs.Pairing.{corner-exchanged, corner-same}
 use Rattle.pfaffian.proofs.pairs.bring.Goals as goal
 

@@ -1,6 +1,4 @@
 -- `pfaffian::pairs::eliminate` meets its contract, by the law `eliminated`. Assumes nothing.
-use native.Mathlib.Omega.{arith}
-use borrow.Author.Rules.{rules}
 use Rattle.pfaffian.proofs.Elimination.{eliminated}
 use Rattle.pfaffian.proofs.pairs.eliminate.Goals as goal
 

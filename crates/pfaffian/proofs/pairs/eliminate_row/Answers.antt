@@ -1,8 +1,7 @@
 -- `pfaffian::pairs::eliminate_row` meets its contract: each turn makes an entry by the rows k and k + 1 (`pair-row-more`). Assumes nothing.
 use mathlib.Core.Path.{◌≡◌, subst}
-use Prim.Native.Nat.{◌≤◌, ◌<◌, ◌-◌, ◌+◌, ◌*◌}
+use Prim.Native.Nat.{◌<◌, ◌-◌, ◌+◌, ◌*◌}
 use native.Mathlib.Omega.{arith}
-use borrow.Author.Rules.{rules}
 use lib.ListN.{get_or, length, set}
 use lib.Ieee.{nan}
 use Rattle.laws.specs.Steps.{corner_from}
@@ -24,7 +23,7 @@ here c = walk c.args.dim c.args.k c.args.i c.loop-x.x c.requires.k_bound c.requi
 
 -- they are in the slice
 in-slice : (c : In-loop-x)
-    →    let l = c.loop-x in (l.x + c.args.dim < length l.a) × (l.x + (c.args.i * c.args.dim - c.args.k * c.args.dim) < length l.a)
+    → let l = c.loop-x in (l.x + c.args.dim < length l.a) × (l.x + (c.args.i * c.args.dim - c.args.k * c.args.dim) < length l.a)
 in-slice c =
     let w = (here c).room in
     (omega (arith, w, c.loop-x.invariant.1.long, c.requires.inside.room), omega (arith, w, c.loop-x.invariant.1.long, c.requires.inside.room))

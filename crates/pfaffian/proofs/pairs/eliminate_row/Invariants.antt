@@ -1,15 +1,8 @@
 -- `pfaffian::pairs::eliminate_row` meets its contract: each turn makes an entry by the rows k and k + 1 (`pair-row-more`). Assumes nothing.
-use mathlib.Core.Path.{◌≡◌, subst}
-use Prim.Native.Nat.{◌≤◌, ◌<◌, ◌-◌, ◌+◌, ◌*◌}
-use native.Mathlib.Omega.{arith}
-use borrow.Author.Rules.{rules}
-use lib.ListN.{get_or, length, set}
-use lib.Ieee.{nan}
+use Prim.Native.Nat.{◌≤◌, ◌-◌, ◌+◌, ◌*◌}
 use Rattle.laws.specs.Steps.{corner_from}
-use Rattle.laws.proofs.Sweep.{sweep-done}
-use Rattle.laws.proofs.Eliminations.{PairRow, pair-row-more, corner-low, corner-on, corner-row-start}
+use Rattle.laws.proofs.Eliminations.{PairRow}
 use Rattle.pfaffian.specs.Turns.{less_by}
-use Rattle.pfaffian.proofs.Elimination.{Walk, rows_in, walk}
 use Rattle.pfaffian.proofs.pairs.eliminate_row.Given as goal
 
 abbrev pub invariant-loop-x : goal.invariant-loop-x

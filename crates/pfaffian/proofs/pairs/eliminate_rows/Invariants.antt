@@ -1,11 +1,7 @@
 -- `pfaffian::pairs::eliminate_rows` meets its contract: each turn makes a row (`pair-more`). Assumes nothing.
 use Prim.Native.Nat.{◌≤◌, ◌-◌, ◌+◌}
-use native.Mathlib.Omega.{arith}
-use borrow.Author.Rules.{rules}
 use Rattle.laws.specs.Steps.{corner_from}
-use Rattle.laws.specs.Loops.{by_row}
-use Rattle.laws.proofs.Sweep.{sweep-start, sweep-done}
-use Rattle.laws.proofs.Eliminations.{Pair, pair-more, corner-low}
+use Rattle.laws.proofs.Eliminations.{Pair}
 use Rattle.pfaffian.specs.Turns.{less_by}
 use Rattle.pfaffian.proofs.pairs.eliminate_rows.Given as goal
 

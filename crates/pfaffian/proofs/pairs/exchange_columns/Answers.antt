@@ -1,13 +1,11 @@
 -- `pfaffian::pairs::exchange_columns` meets its contract: each turn trades two entries (`cols-exchange-more`). Assumes nothing.
-use Prim.Native.Nat.{◌≤◌, ◌-◌}
 use native.Mathlib.Omega.{arith}
-use borrow.Author.Rules.{rules}
 use borrow.Author.Tests.{lt-leb}
 use Rattle.laws.specs.Steps.{rows_from}
 use Rattle.laws.specs.Loops.{by_row}
 use Rattle.laws.proofs.Loops.{made}
 use Rattle.laws.proofs.Sweep.{sweep-start}
-use Rattle.laws.proofs.Exchange.{ColsExchanged, cols-exchange-more}
+use Rattle.laws.proofs.Exchange.{cols-exchange-more}
 use Rattle.pfaffian.proofs.pairs.exchange_columns.Goals as goal
 
 pub loop-r-init : goal.loop-r-init
@@ -15,8 +13,7 @@ loop-r-init c = (omega (arith, c.requires), sweep-start by_row (rows_from c.args
 
 pub loop-r-preserved : goal.loop-r-preserved
 loop-r-preserved c =
-    let l = c.loop-r in
-    (
+    let l = c.loop-r in (
       omega (arith, l.invariant.0, c.loop-r-test.true),
       cols-exchange-more c.args.p c.args.q c.args.k c.args.dim l.r c.args.a.now l.a _ c.requires.inside.row c.requires.inside.col
           l.invariant.0.0 c.loop-r-test.true c.requires.inside.room l.invariant.1 c.exchange.ensures,

@@ -1,13 +1,6 @@
 -- `pfaffian::pairs::exchange_columns` meets its contract: each turn trades two entries (`cols-exchange-more`). Assumes nothing.
 use Prim.Native.Nat.{◌≤◌, ◌-◌}
-use native.Mathlib.Omega.{arith}
-use borrow.Author.Rules.{rules}
-use borrow.Author.Tests.{lt-leb}
-use Rattle.laws.specs.Steps.{rows_from}
-use Rattle.laws.specs.Loops.{by_row}
-use Rattle.laws.proofs.Loops.{made}
-use Rattle.laws.proofs.Sweep.{sweep-start}
-use Rattle.laws.proofs.Exchange.{ColsExchanged, cols-exchange-more}
+use Rattle.laws.proofs.Exchange.{ColsExchanged}
 use Rattle.pfaffian.proofs.pairs.exchange_columns.Given as goal
 
 abbrev pub invariant-loop-r : goal.invariant-loop-r

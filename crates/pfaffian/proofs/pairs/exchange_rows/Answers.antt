@@ -1,13 +1,11 @@
 -- `pfaffian::pairs::exchange_rows` meets its contract: each turn trades two entries (`rows-exchange-more`). Assumes nothing.
-use Prim.Native.Nat.{◌≤◌, ◌-◌}
 use native.Mathlib.Omega.{arith}
-use borrow.Author.Rules.{rules}
 use borrow.Author.Tests.{lt-leb}
 use Rattle.laws.specs.Steps.{cols_from}
 use Rattle.laws.specs.Loops.{by_col}
 use Rattle.laws.proofs.Loops.{made}
 use Rattle.laws.proofs.Sweep.{sweep-start}
-use Rattle.laws.proofs.Exchange.{RowsExchanged, rows-exchange-more}
+use Rattle.laws.proofs.Exchange.{rows-exchange-more}
 use Rattle.pfaffian.proofs.pairs.exchange_rows.Goals as goal
 
 pub loop-c-init : goal.loop-c-init
@@ -15,8 +13,7 @@ loop-c-init c = (omega (arith, c.requires), sweep-start by_col (cols_from c.args
 
 pub loop-c-preserved : goal.loop-c-preserved
 loop-c-preserved c =
-    let l = c.loop-c in
-    (
+    let l = c.loop-c in (
       omega (arith, l.invariant.0, c.loop-c-test.true),
       rows-exchange-more c.args.p c.args.q c.args.k c.args.dim l.c c.args.a.now l.a _ c.requires.inside.row c.requires.inside.col
           l.invariant.0.0 c.loop-c-test.true c.requires.inside.room l.invariant.1 c.exchange.ensures,

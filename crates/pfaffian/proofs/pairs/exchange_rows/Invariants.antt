@@ -1,13 +1,6 @@
 -- `pfaffian::pairs::exchange_rows` meets its contract: each turn trades two entries (`rows-exchange-more`). Assumes nothing.
 use Prim.Native.Nat.{◌≤◌, ◌-◌}
-use native.Mathlib.Omega.{arith}
-use borrow.Author.Rules.{rules}
-use borrow.Author.Tests.{lt-leb}
-use Rattle.laws.specs.Steps.{cols_from}
-use Rattle.laws.specs.Loops.{by_col}
-use Rattle.laws.proofs.Loops.{made}
-use Rattle.laws.proofs.Sweep.{sweep-start}
-use Rattle.laws.proofs.Exchange.{RowsExchanged, rows-exchange-more}
+use Rattle.laws.proofs.Exchange.{RowsExchanged}
 use Rattle.pfaffian.proofs.pairs.exchange_rows.Given as goal
 
 abbrev pub invariant-loop-c : goal.invariant-loop-c

@@ -1,17 +1,14 @@
 -- `pfaffian::pairs::pfaffian` meets its contract: what is left from pair k on gives what the whole gives (`pair_turn`). Assumes nothing.
 use mathlib.Core.Path.{◌≡◌, sym, ap, ◌∙◌}
-use mathlib.Core.Logic.{⊎_elim}
-use Prim.Native.Nat.{◌≤◌, ◌-◌, ◌+◌, ◌/◌, ◌%◌}
+use Prim.Native.Nat.{◌≤◌, ◌+◌}
 use native.Mathlib.Nat.{sub-zero}
 use native.Mathlib.Omega.{arith}
 use borrow.Author.Rules.{rules}
 use borrow.Author.Tests.{eq-eqb, ne_eqb}
-use Rattle.laws.specs.Zeros.{+1}
 use Rattle.laws.specs.Matrix.{at}
 use Rattle.laws.proofs.Matrix.{same}
 use Rattle.laws.proofs.Zeros.{zero_bits, one-bits}
-use Rattle.pfaffian.specs.Work.{Kept}
-use Rattle.pfaffian.specs.Pfaffian.{pivot_of, pf, pfaffian_of}
+use Rattle.pfaffian.specs.Pfaffian.{pivot_of, pfaffian_of}
 use Rattle.pfaffian.proofs.Congruent.{pivot-found}
 use Rattle.pfaffian.proofs.Pairing.{pair_turn, pair-stop, pair-done, pair-kept}
 use Rattle.pfaffian.proofs.pairs.pfaffian.Goals as goal
@@ -35,10 +32,13 @@ unfolding pfaffian_of
 returns-then-found c =
     let l = c.loop-k in
     let found = c.pivot-found.ensures.value in
-    record { value = rw (ne_eqb _ _ c.if-dim-eq1.false)
+    record {
+      value = rw (ne_eqb _ _ c.if-dim-eq1.false)
           (pair-stop c.args.dim l.k l.a l.pf c.loop-k-test.true l.invariant.0.1 _
           (ap (λ s. s.0) found) c.if-found.true
-          ∙ l.invariant.2); kept = l.invariant.1 }
+          ∙ l.invariant.2);
+      kept = l.invariant.1;
+    }
 
 -- the pivot stands after column k
 pub bring-requires : goal.bring-requires
@@ -72,5 +72,8 @@ pub returns : goal.returns
 unfolding pfaffian_of
 returns c =
     let l = c.loop-k in
-    record { value = rw (ne_eqb _ _ c.if-dim-eq1.false)
-          (sym (pair-done (at c.args.dim l.a) c.args.dim l.k l.pf c.loop-k-test.false) ∙ l.invariant.2); kept = l.invariant.1 }
+    record {
+      value = rw (ne_eqb _ _ c.if-dim-eq1.false)
+          (sym (pair-done (at c.args.dim l.a) c.args.dim l.k l.pf c.loop-k-test.false) ∙ l.invariant.2);
+      kept = l.invariant.1;
+    }

@@ -1,13 +1,9 @@
 -- `pfaffian::pairs::pivot` meets its contract: what is left of the row gives what the whole row gives. Assumes nothing.
-use mathlib.Core.Path.{◌≡◌, sym, ap, ◌∙◌}
-use mathlib.Core.Logic.{⊎_elim}
-use Prim.Native.Nat.{◌≤◌, ◌<◌, ◌-◌, ◌+◌}
+use mathlib.Core.Path.{sym, ap, ◌∙◌}
 use native.Mathlib.Omega.{arith}
 use borrow.Author.Rules.{rules}
 use Rattle.laws.specs.Matrix.{at}
 use Rattle.num.specs.Order.{abs_of}
-use Rattle.pfaffian.specs.Pfaffian.{pivot_of}
-use Rattle.pfaffian.specs.Pfaffian as pfaffian
 use Rattle.pfaffian.proofs.Pivots.{search-start, search-larger, search-smaller, search-done}
 use Rattle.pfaffian.proofs.pairs.pivot.Goals as goal
 use Rattle.pfaffian.proofs.pairs.pivot.Goals.{then-v-best, else-v-best}
@@ -25,8 +21,8 @@ loop-j-preserved c =
       omega arith,
       elim c.if-v-best.branch [ then-v-best w ↦ rw w.piv-is h | else-v-best w ↦ rw w.piv-is l.invariant.1 ],
       elim c.if-v-best.branch [
-        then-v-best w ↦ rw (w.piv-is, w.best-is) (search-larger row c.args.dim l.j l.piv l.best v h is w.if-v-best.true)
-      | else-v-best w ↦ rw (w.piv-is, w.best-is) (search-smaller row c.args.dim l.j l.piv l.best v h is w.if-v-best.false)
+        | then-v-best w ↦ rw (w.piv-is, w.best-is) (search-larger row c.args.dim l.j l.piv l.best v h is w.if-v-best.true)
+        | else-v-best w ↦ rw (w.piv-is, w.best-is) (search-smaller row c.args.dim l.j l.piv l.best v h is w.if-v-best.false)
       ] ∙ l.invariant.2,
     )
 

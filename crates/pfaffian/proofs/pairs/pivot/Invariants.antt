@@ -1,14 +1,9 @@
 -- `pfaffian::pairs::pivot` meets its contract: what is left of the row gives what the whole row gives. Assumes nothing.
-use mathlib.Core.Path.{◌≡◌, sym, ap, ◌∙◌}
-use mathlib.Core.Logic.{⊎_elim}
+use mathlib.Core.Path.{◌≡◌}
 use Prim.Native.Nat.{◌≤◌, ◌<◌, ◌-◌, ◌+◌}
-use native.Mathlib.Omega.{arith}
-use borrow.Author.Rules.{rules}
 use Rattle.laws.specs.Matrix.{at}
-use Rattle.num.specs.Order.{abs_of}
 use Rattle.pfaffian.specs.Pfaffian.{pivot_of}
 use Rattle.pfaffian.specs.Pfaffian as pfaffian
-use Rattle.pfaffian.proofs.Pivots.{search-start, search-larger, search-smaller, search-done}
 use Rattle.pfaffian.proofs.pairs.pivot.Given as goal
 
 abbrev pub invariant-loop-j : goal.invariant-loop-j

@@ -1,10 +1,7 @@
 -- `pfaffian::pairs::scale_row` meets its contract: each turn divides an entry (`scaled-more`). Assumes nothing.
 use Prim.Native.Nat.{◌≤◌, ◌-◌, ◌+◌}
-use native.Mathlib.Omega.{arith}
-use borrow.Author.Rules.{rules}
 use lib.Ieee.{binary64, div}
-use Rattle.laws.proofs.Sweep.{sweep-done}
-use Rattle.laws.proofs.Eliminations.{Scaled, cols-row-start, scaled-more}
+use Rattle.laws.proofs.Eliminations.{Scaled}
 use Rattle.pfaffian.proofs.pairs.scale_row.Given as goal
 
 abbrev pub invariant-loop-j : goal.invariant-loop-j

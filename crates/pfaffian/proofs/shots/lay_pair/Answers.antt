@@ -1,6 +1,5 @@
 -- `pfaffian::shots::lay_pair` meets its contract, by its test. Assumes nothing.
 use mathlib.Core.Path.{ap, ◌∙◌}
-use borrow.Author.Rules.{rules}
 use Rattle.pfaffian.specs.Turns.{laid}
 use Rattle.pfaffian.proofs.shots.lay_pair.Goals as goal
 

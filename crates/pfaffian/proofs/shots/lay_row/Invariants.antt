@@ -1,10 +1,7 @@
 -- `pfaffian::shots::lay_row` meets its contract: each turn copies an entry across the diagonal (`laid_more`). Assumes nothing.
 use Prim.Native.Nat.{◌≤◌, ◌-◌}
-use native.Mathlib.Omega.{arith}
-use borrow.Author.Rules.{rules}
 use lib.Ieee.{neg}
-use Rattle.laws.proofs.Sweep.{sweep-done}
-use Rattle.laws.proofs.Eliminations.{Laid, cols-row-start, laid_more}
+use Rattle.laws.proofs.Eliminations.{Laid}
 use Rattle.pfaffian.proofs.shots.lay_row.Given as goal
 
 abbrev pub invariant-loop-e : goal.invariant-loop-e

@@ -8,12 +8,20 @@ use Rattle.pfaffian.proofs.shots.measure.Goals as goal
 
 pub returns-then-den : goal.returns-then-den
 returns-then-den c =
-    record { plain = measures-tiny c.args.dim c.args.k _ _ c.args.m.now _ _ _ _ c.requires.holds.band c.entry.ensures
-          c.clamp-mab.ensures c.drawn-one.ensures c.spin-s.ensures c.if-den.true; used = refl; kept = same _ _ }
+    record {
+      plain = measures-tiny c.args.dim c.args.k _ _ c.args.m.now _ _ _ _ c.requires.holds.band c.entry.ensures
+          c.clamp-mab.ensures c.drawn-one.ensures c.spin-s.ensures c.if-den.true;
+      used = refl;
+      kept = same _ _;
+    }
 
 pub returns : goal.returns
 returns c =
-    record { plain = measures-more c.args.dim c.args.k _ _ c.args.m.now _ _ _ _ c.requires.holds.band c.entry.ensures
+    record {
+      plain = measures-more c.args.dim c.args.k _ _ c.args.m.now _ _ _ _ c.requires.holds.band c.entry.ensures
           c.clamp-mab.ensures c.drawn-one.ensures c.spin-s.ensures _ c.if-den.false c.requires.holds.room
-          c.update.ensures; used = refl; kept = kept-update c.args.dim (2 * c.args.k) _ c.args.fresh c.args.m.now _ c.requires.holds.room
-            c.update.ensures }
+          c.update.ensures;
+      used = refl;
+      kept = kept-update c.args.dim (2 * c.args.k) _ c.args.fresh c.args.m.now _ c.requires.holds.room
+          c.update.ensures;
+    }

@@ -1,7 +1,6 @@
 -- `pfaffian::shots::qubit_bit` meets its contract, by its tests. Assumes nothing.
 use mathlib.Core.Bool.{false}
 use native.Mathlib.Omega.{arith}
-use borrow.Author.Rules.{rules}
 use borrow.Author.Tests.{lt-ltb, le-ltb}
 use lib.ListN.{get_or-eq_default}
 use Rattle.pfaffian.proofs.shots.qubit_bit.Goals as goal

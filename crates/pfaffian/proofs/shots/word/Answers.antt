@@ -1,5 +1,6 @@
 -- `pfaffian::shots::word` meets its contract: from the highest bit down, each turn puts a bit below those above it. Assumes nothing.
 use mathlib.Core.Path.{◌≡◌, refl, ◌∙◌}
+use mathlib.Core.Bool.{Bool}
 use Prim.Native.Nat.{ℕ, ◌≤◌, ◌<◌, ◌-◌, ◌+◌, ◌^◌}
 use native.Mathlib.Nat.{le_trans}
 use native.Mathlib.Omega.{arith}
@@ -16,7 +17,7 @@ unfolding word_of
 loop-i-init c = (omega arith, refl)
 
 -- there is room for one bit more
-room : (bit : ℕ → ℕ) (low i w : ℕ) → 0 < i → w ≡ word_of bit (low + i) (64 - i) → w < 2 ^ 63
+room : (bit : ℕ → Bool) (low i w : ℕ) → 0 < i → w ≡ word_of bit (low + i) (64 - i) → w < 2 ^ 63
 room bit low i w h e = rw e (le_trans (word_below _ _ (64 - i)) (pow_mono {j = 63} (omega arith)))
 
 pub overflow_mul-w : goal.overflow_mul-w
@@ -27,8 +28,7 @@ overflow_add-w c = omega (arith, room _ _ c.loop-i.i _ c.loop-i-test.true c.loop
 
 pub loop-i-preserved : goal.loop-i-preserved
 loop-i-preserved c =
-    let l = c.loop-i in
-    (
+    let l = c.loop-i in (
       omega arith,
       rw (c.qubit_bit.ensures.value, l.invariant.1) (word-turn _ c.args.low 64 l.i c.loop-i-test.true l.invariant.0),
     )

@@ -1,0 +1,9 @@
+-- `leaves::code` meets its contract: the number is the sum of its parts.
+-- Assumes nothing.
+use borrow.Author.Rules.{rules}
+use Rattle.leaves.specs.Classes.{code_of}
+use Rattle.leaves.proofs.code.Goals as goal
+
+pub returns : goal.returns
+unfolding code_of
+returns c = rw (c.weight-a.ensures.0, c.weight-s.ensures.0, c.kind_code-n.ensures.0)

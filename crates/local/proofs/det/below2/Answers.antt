@@ -1,0 +1,16 @@
+-- `local::det::below2` meets its contract, by its test. Assumes nothing.
+use mathlib.Core.Path.{◌∙◌}
+use mathlib.Core.List.{[], ◌∷◌}
+use lib.Ieee.{binary64, mul, of_bits}
+use Rattle.local.specs.Det.{eliminated, lowered_all}
+use Rattle.local.proofs.det.below2.Goals as goal
+
+pub returns-then-q : goal.returns-then-q
+unfolding of_bits
+returns-then-q c = rw c.if-q.true
+
+pub returns : goal.returns
+unfolding lowered_all of_bits
+returns c =
+    let e = c.args in
+    rw c.if-q.false (c.pivot1.ensures ∙ (λ i. eliminated 1 (c.lowered2.ensures i ∷ []) (mul binary64 e.d e.q.x0)))

@@ -1,0 +1,8 @@
+-- `local::det::lowered3` meets its contract, by the definition. Assumes nothing.
+use mathlib.Core.Path.{refl}
+use Rattle.local.specs.Det.{less}
+use Rattle.local.proofs.det.lowered3.Goals as goal
+
+pub returns : goal.returns
+unfolding less
+returns c = refl

@@ -1,0 +1,23 @@
+-- `local::local::apply_local2` meets its contract: its phases are those of `step`. Assumes nothing.
+use mathlib.Core.Path.{sym, ap, ◌∙◌}
+use Prim.Native.Nat.{◌*◌}
+use lib.Ieee.{lt, of_bits}
+use Rattle.laws.specs.Zeros.{+0}
+use Rattle.real.specs.Maps.{local2}
+use Rattle.local.specs.Det.{odd}
+use Rattle.local.proofs.Steps.{step-turned, step_kept}
+use Rattle.local.proofs.local.apply_local2.Goals as goal
+
+pub returns-then-det2 : goal.returns-then-det2
+unfolding odd of_bits
+returns-then-det2 c =
+    let below = ap (λ x. lt x +0) (sym c.det2.ensures) ∙ c.if-det2.true in
+    step-turned odd (local2 (2 * c.args.mode) c.args.q) (2 * c.args.n) c.args.state.now _ _ c.requires.room c.requires.band
+    c.settle.ensures c.both2.ensures _ below c.turn_from.ensures
+
+pub returns-else-det2 : goal.returns-else-det2
+unfolding odd of_bits
+returns-else-det2 c =
+    let above = ap (λ x. lt x +0) (sym c.det2.ensures) ∙ c.if-det2.false in
+    step_kept odd (local2 (2 * c.args.mode) c.args.q) (2 * c.args.n) c.args.state.now _ _ c.requires.room c.requires.band
+    c.settle.ensures c.both2.ensures above
