@@ -1,6 +1,6 @@
 -- A permutation has an inverse: every mode below n is the mode of a qubit below n, which `qubit_at` finds. By counting: n different numbers below n
 -- leave none out. And a table of n modes below n that leaves none out is a permutation. Assumes nothing.
-use Rattle.std.proofs.Common.{◌≡◌, ℕ, zero, suc, ◌-◌, ◌<◌, ◌≤◌, true, not, eqb, ◌≢◌, ◌⊎◌, List, sym, refl, ap, ◌∙◌, inl, inr, suc-le-suc, zero-le, le_refl, not-suc-le-zero, arith, lt-ltb, eq-eqb, ne_eqb, eqb-true}
+use Rattle.std.proofs.Common.{◌≡◌, ℕ, zero, suc, ◌<◌, ◌≤◌, true, not, eqb, ◌≢◌, ◌⊎◌, List, sym, refl, ap, ◌∙◌, inl, inr, suc-le-suc, zero-le, le_refl, not-suc-le-zero, arith, lt-ltb, eq-eqb, ne_eqb, eqb-true}
 use mathlib.Core.Bool.{false≢true}
 use Rattle.laws.specs.Tables.{exchanged, mode_at}
 use Rattle.laws.specs.Tests.{all_below}

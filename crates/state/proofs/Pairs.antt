@@ -1,5 +1,5 @@
 -- Laws of the vacuum: a turn of the loop that writes its pairs, and the whole state in the slice. Assumes nothing.
-use Rattle.std.proofs.Common.{◌≡◌, ℕ, ◌+◌, ◌-◌, ◌*◌, ◌/◌, ◌%◌, ◌<◌, ◌≤◌, false, cond, ◌&&◌, eqb, ◌≢◌, ◌⊎◌, List, length, get_or, take, drop, set, sym, ap, ◌∙◌, inl, inr, le_of_eq, arith, length-drop, length-set, length-take-le, eq-eqb, ne_eqb}
+use Rattle.std.proofs.Common.{◌≡◌, ℕ, ◌+◌, ◌*◌, ◌/◌, ◌%◌, ◌<◌, ◌≤◌, false, cond, ◌&&◌, eqb, ◌≢◌, ◌⊎◌, List, length, get_or, take, drop, set, sym, ap, ◌∙◌, inl, inr, le_of_eq, arith, length-drop, length-set, length-take-le, eq-eqb, ne_eqb}
 use lib.Ieee.{Float, nan, neg}
 use Rattle.laws.specs.Zeros.{+0, +1}
 use Rattle.laws.specs.Slices.{on_part, filled}

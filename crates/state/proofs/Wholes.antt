@@ -47,6 +47,8 @@ unfolding of_int
 is-of-eq i s m e b h = from (round binary64 false i 1) (round_whole binary64 false i b) h
   where
     from : (r : Float) → HasValue r false i 1 → eq r (fin s m e) ≡ true → Is i s m e
+    from nan v g = elim v [ ]
+    from (inf _) v g = elim v [ ]
     from (fin true n d) v g = absurd (false≢true (sym v.0))
     from (fin false n d) v g = level-is i s n m d e (sym (mul-one (n * up d)) ∙ v.1) g
 
@@ -80,6 +82,8 @@ cut i true m e b h = sym (none i m e h)
 -- a whole number is neither a NaN nor an infinity
 number : (r x : Float) (i : ℕ) → HasValue r false i 1 → eq r x ≡ true → T (finite x)
 unfolding eq
+number nan _ i v h = elim v [ ]
+number (inf _) _ i v h = elim v [ ]
 number (fin s n d) nan i v h = absurd (false≢true h)
 number (fin s n d) (inf t) i v h = absurd (false≢true h)
 number (fin s n d) (fin t m e) i v h = tt
@@ -89,6 +93,8 @@ unfolding mode_of is_whole of_int
 mode-is x i n b l h = by x h (number (round binary64 false i 1) x i (round_whole binary64 false i b) h)
   where
     by : (x : Float) → eq (of_int binary64 (pos i)) x ≡ true → T (finite x) → mode_of x n ≡ At i
+    by nan h f = elim f [ ]
+    by (inf _) h f = elim f [ ]
     by (fin s m e) h f =
         let w = is-of-eq i s m e b h in
         rw (above i s m e w, below i s m e b w, cut i s m e b w, h, lt-ltb i n l)
@@ -97,6 +103,8 @@ mode-is x i n b l h = by x h (number (round binary64 false i 1) x i (round_whole
 
 same : (r : Float) (k : ℕ) → HasValue r false k 1 → eq r r ≡ true
 unfolding eq
+same nan k v = elim v [ ]
+same (inf _) k v = elim v [ ]
 same (fin true n d) k v = absurd (false≢true (sym v.0))
 same (fin false n d) k v = rw (eq-eqb (n * up d * down d) (n * up d * down d) refl)
 
