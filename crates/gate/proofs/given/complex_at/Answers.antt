@@ -1,7 +1,6 @@
 -- `gate::given::complex_at` meets its contract: each read is what its definition says.
 -- Assumes nothing.
 use Rattle.gate.specs.Given.{complex_at}
-use borrow.Author.Rules.{rules}
 use Rattle.gate.proofs.given.complex_at.Goals as goal
 
 pub returns : goal.returns

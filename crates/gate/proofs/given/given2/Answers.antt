@@ -1,7 +1,6 @@
 -- `gate::given::given2` meets its contract: each read is what its definition says.
 -- Assumes nothing.
 use Rattle.gate.specs.Given.{given2_at}
-use borrow.Author.Rules.{rules}
 use Rattle.gate.proofs.given.given2.Goals as goal
 
 pub returns : goal.returns

@@ -1,7 +1,6 @@
 -- `gate::given::given4` meets its contract: each read is what its definition says.
 -- Assumes nothing.
 use Rattle.gate.specs.Given.{given4_at}
-use borrow.Author.Rules.{rules}
 use Rattle.gate.proofs.given.given4.Goals as goal
 
 pub returns : goal.returns

@@ -1,7 +1,6 @@
 -- `gate::given::given_row` meets its contract: each read is what its definition says.
 -- Assumes nothing.
 use Rattle.gate.specs.Given.{given_row_at}
-use borrow.Author.Rules.{rules}
 use Rattle.gate.proofs.given.given_row.Goals as goal
 
 pub returns : goal.returns

@@ -1,6 +1,5 @@
 -- `gate::lent::load2` meets its contract: the row's four numbers are the entries.
 -- Assumes nothing.
-use borrow.Author.Rules.{rules}
 use Rattle.gate.proofs.lent.load2.Goals as goal
 
 pub returns : goal.returns

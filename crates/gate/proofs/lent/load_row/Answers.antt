@@ -2,7 +2,6 @@
 -- Assumes nothing.
 use mathlib.Core.Path.{refl}
 use Rattle.gate.specs.Lent.{row_at}
-use borrow.Author.Rules.{rules}
 use Rattle.gate.proofs.lent.load_row.Goals as goal
 
 pub returns : goal.returns

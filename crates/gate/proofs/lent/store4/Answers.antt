@@ -1,7 +1,6 @@
 -- `gate::lent::store4` meets its contract: each row is stored as `store_row` says, one after the other.
 -- Assumes nothing.
 use Rattle.gate.specs.Lent.{store4_of}
-use borrow.Author.Rules.{rules}
 use Rattle.gate.proofs.lent.store4.Goals as goal
 
 pub returns : goal.returns

@@ -5,7 +5,6 @@ use native.Mathlib.Omega.{arith}
 use lib.ListN.{length-set}
 use Rattle.laws.specs.Slices.{stores}
 use Rattle.gate.specs.Lent.{store_row_of}
-use borrow.Author.Rules.{rules}
 use Rattle.gate.proofs.lent.store_row.Goals as goal
 
 pub bounds-s-p-2 : goal.bounds-s-p-2

@@ -1,5 +1,4 @@
 -- `num::bits::f64_at` meets its contract. Assumes nothing.
-use borrow.Author.Rules.{rules}
 use Rattle.num.proofs.bits.f64_at.Goals as goal
 
 pub returns : goal.returns

@@ -3,7 +3,6 @@ use mathlib.Core.Path.{sym, ◌∙◌}
 use lib.Ieee.{div, of_bits}
 use lib.Ieee.Bits.{nan_bits_above}
 use borrow.Author.Tests.{lt-ltb, le-ltb}
-use borrow.Author.Rules.{rules}
 use Rattle.num.proofs.BitLaws.{is-nan, nan-test}
 use Rattle.num.proofs.bits.from_bits.Goals as goal
 

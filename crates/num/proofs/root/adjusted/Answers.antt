@@ -2,7 +2,6 @@
 use mathlib.Core.Path.{◌≡◌}
 use Prim.Native.Nat.{◌+◌, ◌-◌, ◌*◌, ◌^◌}
 use native.Mathlib.Omega.{arith}
-use borrow.Author.Rules.{rules}
 use Rattle.num.proofs.root.Tested.{apart, itself, less_one, one_more}
 use Rattle.num.proofs.root.adjusted.Goals as goal
 use Rattle.num.proofs.root.adjusted.Goals.{Else-a-k}

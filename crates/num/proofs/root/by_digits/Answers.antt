@@ -1,5 +1,4 @@
 -- `num::root::by_digits` meets its contract: 54 digits, rounded to 53. Assumes nothing.
-use borrow.Author.Rules.{rules}
 use Rattle.num.proofs.root.Tested.{by_digits}
 use Rattle.num.proofs.root.by_digits.Goals as goal
 

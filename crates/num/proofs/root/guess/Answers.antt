@@ -1,7 +1,6 @@
 -- `num::root::guess` meets its contract: the patterns that it makes floats of are no NaN's. Assumes nothing.
 use native.Mathlib.Omega.{arith}
 use Rattle.num.proofs.root.Tested.{a-number}
-use borrow.Author.Rules.{rules}
 use Rattle.num.proofs.root.guess.Goals as goal
 
 pub float_from_bits-v : goal.float_from_bits-v

@@ -1,7 +1,7 @@
 -- `num::root::normalise` meets its contract. The loop's invariant: m is t moved up by s places, and s is at most 52. The measure is what m lacks to 2 ^ 53.
 -- Assumes nothing.
-use mathlib.Core.Path.{◌≡◌, sym}
-use Prim.Native.Nat.{◌*◌, ◌-◌, ◌^◌, ◌≤◌, ◌<◌}
+use mathlib.Core.Path.{sym}
+use Prim.Native.Nat.{◌<◌}
 use native.Mathlib.Nat.{mul-one}
 use native.Mathlib.Omega.{arith}
 use Rattle.num.proofs.root.Turns.{few, doubled}

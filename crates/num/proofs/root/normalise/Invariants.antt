@@ -1,10 +1,7 @@
 -- `num::root::normalise` meets its contract. The loop's invariant: m is t moved up by s places, and s is at most 52. The measure is what m lacks to 2 ^ 53.
 -- Assumes nothing.
-use mathlib.Core.Path.{◌≡◌, sym}
+use mathlib.Core.Path.{◌≡◌}
 use Prim.Native.Nat.{◌*◌, ◌-◌, ◌^◌, ◌≤◌, ◌<◌}
-use native.Mathlib.Nat.{mul-one}
-use native.Mathlib.Omega.{arith}
-use Rattle.num.proofs.root.Turns.{few, doubled}
 use Rattle.num.proofs.root.normalise.Given as goal
 
 abbrev pub invariant-loop-m : goal.invariant-loop-m

@@ -1,7 +1,6 @@
 -- `num::root::parts` meets its contract: a normal number has its leading digit in its place, a subnormal one is moved up. Assumes nothing.
 use native.Mathlib.Omega.{arith}
 use Rattle.num.proofs.root.Fields.{normal-parts, subnormal-parts}
-use borrow.Author.Rules.{rules}
 use Rattle.num.proofs.root.parts.Goals as goal
 
 pub returns-then-e-gt0 : goal.returns-then-e-gt0

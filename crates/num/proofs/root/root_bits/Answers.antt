@@ -2,7 +2,6 @@
 use native.Mathlib.Omega.{arith}
 use Rattle.num.proofs.root.Tested.{short}
 use Rattle.num.proofs.root.Fields.{met}
-use borrow.Author.Rules.{rules}
 use Rattle.num.proofs.root.root_bits.Goals as goal
 
 pub overflow_add-result : goal.overflow_add-result

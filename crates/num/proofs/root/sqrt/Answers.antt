@@ -2,7 +2,6 @@
 use mathlib.Core.Path.{◌≡◌, sym, subst}
 use lib.Dec.{T}
 use lib.Ieee.{Float, binary64, fits}
-use borrow.Author.Rules.{rules}
 use Rattle.num.specs.Root.{RootOf, sqrt_of}
 use Rattle.num.proofs.SqrtOf.{root_is}
 use Rattle.num.proofs.root.Cases.{number, some_bits, finite-root, infinity, at_zero, no-root}

@@ -1,7 +1,6 @@
 -- `num::root::square_of` meets its contract: the square of h * 2 ^ 26 + l, by parts that fit. Assumes nothing.
 use Prim.Native.Nat.{◌/◌, ◌%◌, ◌^◌}
 use native.Mathlib.Omega.{arith}
-use borrow.Author.Rules.{rules}
 use Rattle.num.proofs.root.Tested.{Bounds, bounds, square}
 use Rattle.num.proofs.root.square_of.Goals as goal
 use Rattle.num.proofs.root.square_of.Goals.{Start}

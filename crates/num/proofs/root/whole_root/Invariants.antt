@@ -1,10 +1,7 @@
 -- `num::root::whole_root` meets its contract. The loop's invariant is `Turn`: q and rem are the root and the remainder of the digits taken so far.
 -- The measure is what is left of 54 turns. Assumes nothing.
-use mathlib.Core.Path.{◌≡◌, sym, subst, subst₂}
-use mathlib.Core.Logic.{⊎_elim}
-use Prim.Native.Nat.{ℕ, ◌+◌, ◌*◌, ◌-◌, ◌%◌, ◌^◌, ◌<◌}
-use native.Mathlib.Omega.{arith}
-use Rattle.num.proofs.root.Turns.{Turn, start, q-fits, zero-digit, one-digit, done}
+use Prim.Native.Nat.{◌-◌}
+use Rattle.num.proofs.root.Turns.{Turn}
 use Rattle.num.proofs.root.whole_root.Given as goal
 
 abbrev pub invariant-loop-i : goal.invariant-loop-i

@@ -1,7 +1,6 @@
 -- `pfaffian::shots::measure` meets its contract: nothing is updated (`measures-tiny`), or all that is later is (`measures-more`). Assumes nothing.
 use mathlib.Core.Path.{refl}
 use Prim.Native.Nat.{◌*◌}
-use borrow.Author.Rules.{rules}
 use Rattle.laws.proofs.Matrix.{same}
 use Rattle.pfaffian.proofs.Standing.{measures-tiny, measures-more, kept-update}
 use Rattle.pfaffian.proofs.shots.measure.Goals as goal

@@ -1,15 +1,13 @@
 -- `pfaffian::shots::measure_modes` meets its contract: the matrix stands for the one that mode k finds (`stands-turn`). Assumes nothing.
 use mathlib.Core.Path.{◌≡◌, ap, sym, ◌∙◌}
-use Prim.Native.Nat.{◌≤◌, ◌-◌, ◌+◌, ◌*◌}
+use Prim.Native.Nat.{◌*◌}
 use native.Mathlib.Omega.{arith}
 use borrow.Author.Rules.{rules}
-use lib.ListN.{length, get_or, length-set}
+use lib.ListN.{get_or, length-set}
 use lib.Ieee.{nan}
 use Rattle.laws.specs.Matrix.{at}
 use Rattle.laws.proofs.Matrix.{same}
-use Rattle.pfaffian.specs.Work.{Kept}
-use Rattle.pfaffian.specs.Shot.{shot, reached, draw_from}
-use Rattle.pfaffian.specs.Turns.{Stands, Listed}
+use Rattle.pfaffian.specs.Shot.{draw_from}
 use Rattle.pfaffian.proofs.Keeping.{kept_then}
 use Rattle.pfaffian.proofs.Listing.{shot-at, stands-start, stands-turn, listed_start, listed-turn}
 use Rattle.pfaffian.proofs.shots.measure_modes.Goals as goal

@@ -1,7 +1,6 @@
 -- `pfaffian::shots::shot` meets its contract: what was listed are the outcomes, and each word is made of them. Assumes nothing.
 use mathlib.Core.Path.{◌∙◌}
 use Prim.Native.Nat.{◌*◌}
-use borrow.Author.Rules.{rules}
 use Rattle.laws.specs.Matrix.{at}
 use Rattle.laws.specs.Tables.{mode_at}
 use Rattle.pfaffian.specs.Shot.{shot, draw_from}

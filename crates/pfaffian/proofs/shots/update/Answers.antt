@@ -1,6 +1,5 @@
 -- `pfaffian::shots::update` meets its contract: one step after the other. Assumes nothing.
 use mathlib.Core.Path.{ap, ◌∙◌}
-use borrow.Author.Rules.{rules}
 use Rattle.pfaffian.specs.Turns.{measured}
 use Rattle.pfaffian.proofs.shots.update.Goals as goal
 

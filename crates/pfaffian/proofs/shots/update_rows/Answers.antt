@@ -1,6 +1,6 @@
 -- `pfaffian::shots::update_rows` meets its contract: each turn makes two rows (`pair-more`, twice). Assumes nothing.
 use mathlib.Core.Path.{◌≡◌, refl, subst}
-use Prim.Native.Nat.{◌≤◌, ◌-◌, ◌+◌}
+use Prim.Native.Nat.{◌+◌}
 use native.Mathlib.Omega.{arith}
 use borrow.Author.Rules.{rules}
 use Rattle.laws.specs.Matrix.{at}

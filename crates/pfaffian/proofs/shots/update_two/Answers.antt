@@ -1,7 +1,7 @@
 -- `pfaffian::shots::update_two` meets its contract: a store before the loop (`two-start`), and each turn makes an entry of both rows (`two-more`).
 -- The invariant is said of the list before that store, which is the one after it with `between` put back. Assumes nothing.
 use mathlib.Core.Path.{◌≡◌, sym, subst, ap, ◌∙◌}
-use Prim.Native.Nat.{ℕ, ◌≤◌, ◌<◌, ◌-◌, ◌+◌, ◌*◌, ◌^◌}
+use Prim.Native.Nat.{ℕ, ◌≤◌, ◌+◌, ◌*◌}
 use mathlib.Core.List.{List}
 use native.Mathlib.Omega.{arith}
 use lib.ListN.{length, set, get_or}

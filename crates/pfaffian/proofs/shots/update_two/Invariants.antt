@@ -1,14 +1,9 @@
 -- `pfaffian::shots::update_two` meets its contract: a store before the loop (`two-start`), and each turn makes an entry of both rows (`two-more`).
 -- The invariant is said of the list before that store, which is the one after it with `between` put back. Assumes nothing.
-use mathlib.Core.Path.{◌≡◌, sym, subst, ◌∙◌}
-use Prim.Native.Nat.{◌≤◌, ◌<◌, ◌-◌, ◌+◌, ◌*◌, ◌^◌}
-use native.Mathlib.Omega.{arith}
-use lib.ListN.{length, set}
-use lib.Seq.{set-set, set-get_or}
-use lib.Ieee.{nan}
-use borrow.Author.Rules.{rules}
+use Prim.Native.Nat.{◌≤◌, ◌-◌, ◌+◌, ◌*◌}
+use lib.ListN.{set}
 use Rattle.pfaffian.specs.Turns.{projected_by}
-use Rattle.pfaffian.proofs.TwoRows.{TwoRows, two-start, two-more, two-done}
+use Rattle.pfaffian.proofs.TwoRows.{TwoRows}
 use Rattle.pfaffian.proofs.shots.update_two.Given as goal
 
 abbrev pub invariant-loop-e : goal.invariant-loop-e

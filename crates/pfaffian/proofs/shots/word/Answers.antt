@@ -1,11 +1,10 @@
 -- `pfaffian::shots::word` meets its contract: from the highest bit down, each turn puts a bit below those above it. Assumes nothing.
 use mathlib.Core.Path.{◌≡◌, refl, ◌∙◌}
 use mathlib.Core.Bool.{Bool}
-use Prim.Native.Nat.{ℕ, ◌≤◌, ◌<◌, ◌-◌, ◌+◌, ◌^◌}
+use Prim.Native.Nat.{ℕ, ◌<◌, ◌-◌, ◌+◌, ◌^◌}
 use native.Mathlib.Nat.{le_trans}
 use native.Mathlib.Omega.{arith}
 use lib.Pow.{pow_mono}
-use borrow.Author.Rules.{rules}
 use Rattle.laws.specs.Tables.{mode_at}
 use Rattle.pfaffian.specs.Shot.{qubit_bit, word_of}
 use Rattle.pfaffian.proofs.Listing.{word-turn, word_below}

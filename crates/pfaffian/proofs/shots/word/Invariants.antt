@@ -1,13 +1,8 @@
 -- `pfaffian::shots::word` meets its contract: from the highest bit down, each turn puts a bit below those above it. Assumes nothing.
-use mathlib.Core.Path.{◌≡◌, refl, ◌∙◌}
-use Prim.Native.Nat.{◌≤◌, ◌<◌, ◌-◌, ◌+◌, ◌^◌}
-use native.Mathlib.Nat.{le_trans}
-use native.Mathlib.Omega.{arith}
-use lib.Pow.{pow_mono}
-use borrow.Author.Rules.{rules}
+use mathlib.Core.Path.{◌≡◌}
+use Prim.Native.Nat.{◌≤◌, ◌-◌, ◌+◌}
 use Rattle.laws.specs.Tables.{mode_at}
 use Rattle.pfaffian.specs.Shot.{qubit_bit, word_of}
-use Rattle.pfaffian.proofs.Listing.{word-turn, word_below}
 use Rattle.pfaffian.proofs.shots.word.Given as goal
 
 abbrev pub invariant-loop-i : goal.invariant-loop-i

@@ -1,5 +1,4 @@
 -- `real::entries::entry` meets its contract: the place is in the list. Assumes nothing.
-use mathlib.Core.Path.{refl}
 use native.Mathlib.Omega.{arith}
 use Rattle.laws.proofs.Matrix.{entry_in}
 use Rattle.real.proofs.entries.entry.Goals as goal

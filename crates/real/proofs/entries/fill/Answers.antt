@@ -1,11 +1,9 @@
 -- `real::entries::fill` meets its contract: from the front. Assumes nothing.
-use mathlib.Core.Path.{◌≡◌, refl}
-use Prim.Native.Nat.{◌-◌, ◌≤◌}
+use mathlib.Core.Path.{refl}
 use native.Mathlib.Omega.{arith}
 use borrow.Author.Rules.{rules}
-use lib.ListN.{length, length-set}
+use lib.ListN.{length-set}
 use lib.Ieee.{nan}
-use Rattle.laws.specs.Slices.{filled}
 use Rattle.laws.proofs.Slices.{mapped-none, mapped-more, mapped_end}
 use Rattle.real.proofs.entries.fill.Goals as goal
 

@@ -1,12 +1,8 @@
 -- `real::entries::fill` meets its contract: from the front. Assumes nothing.
-use mathlib.Core.Path.{◌≡◌, refl}
+use mathlib.Core.Path.{◌≡◌}
 use Prim.Native.Nat.{◌-◌, ◌≤◌}
-use native.Mathlib.Omega.{arith}
-use borrow.Author.Rules.{rules}
-use lib.ListN.{length, length-set}
-use lib.Ieee.{nan}
+use lib.ListN.{length}
 use Rattle.laws.specs.Slices.{filled}
-use Rattle.laws.proofs.Slices.{mapped-none, mapped-more, mapped_end}
 use Rattle.real.proofs.entries.fill.Given as goal
 
 abbrev pub invariant-loop-i : goal.invariant-loop-i

@@ -1,6 +1,5 @@
 -- `real::entries::put` meets its contract: the place is in the list. Assumes nothing.
 use native.Mathlib.Omega.{arith}
-use borrow.Author.Rules.{rules}
 use Rattle.laws.proofs.Matrix.{entry_in}
 use Rattle.real.proofs.entries.put.Goals as goal
 

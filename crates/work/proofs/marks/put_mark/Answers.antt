@@ -1,5 +1,4 @@
 use mathlib.Core.Path.{refl}
-use borrow.Author.Rules.{rules}
 use Rattle.work.specs.Marks.{put_mark}
 use Rattle.work.proofs.marks.put_mark.Goals as goal
 
