@@ -1,0 +1,21 @@
+-- `detect::emit::put_rotation` meets its contract. Assumes nothing.
+use mathlib.Core.Path.{ap}
+use native.Mathlib.Omega.{arith}
+use borrow.Author.Rules.{rules}
+use lib.ListN.{length}
+use Rattle.detect.proofs.Emitting.{by-long, put-by, put-nothing}
+use Rattle.detect.proofs.emit.put_rotation.Goals as goal
+
+pub put-requires : goal.put-requires
+put-requires c =
+    (omega (arith, c.requires, by-long c.args.k c.args.x c.in-By.is), ap length c.one_places.ensures)
+
+pub returns-in-By : goal.returns-in-By
+returns-in-By c =
+    let a = c.args in
+    put-by a.k a.x c.in-By.is a.p a.ops.now c.put.new.ops c.one_places.result c.one_places.ensures c.put.ensures
+
+pub returns-in-Nothing : goal.returns-in-Nothing
+returns-in-Nothing c =
+    let a = c.args in
+    put-nothing a.k a.x a.p a.ops.now c.in-Nothing.is

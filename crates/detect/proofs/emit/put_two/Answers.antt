@@ -1,0 +1,60 @@
+-- `detect::emit::put_two` meets its contract, by kind. Assumes nothing.
+use mathlib.Core.Path.{ap, ◌∙◌}
+use mathlib.Core.List.{[], ◌∷◌}
+use Prim.Native.Nat.{◌+◌}
+use native.Mathlib.Omega.{arith}
+use borrow.Author.Rules.{rules}
+use lib.ListN.{length}
+use Rattle.laws.specs.Bounds.{op_places}
+use Rattle.classify.specs.Diagonal.{interaction_of, unit_of}
+use Rattle.detect.specs.Operation.{interaction, places_of}
+use Rattle.detect.specs.Emit.{rotations_of}
+use Rattle.detect.proofs.Placing.{put-none, put_one, put-length, one-long, first-room, next-room, put_both}
+use Rattle.detect.proofs.Emitting.{two-diagonal, two-interaction, two-neither}
+use Rattle.detect.proofs.emit.put_two.Goals as goal
+
+pub put_rotations-requires : goal.put_rotations-requires
+put_rotations-requires c =
+    let a = c.args in
+    rw (two-diagonal a.block a.kind a.i a.j a.v c.if-kind-eq-DIAGONAL_ITEM.true) at c.requires.v_in_bounds
+
+pub returns-then-kind-eq-DIAGONAL_ITEM : goal.returns-then-kind-eq-DIAGONAL_ITEM
+returns-then-kind-eq-DIAGONAL_ITEM c =
+    let a = c.args in
+    rw (two-diagonal a.block a.kind a.i a.j a.v c.if-kind-eq-DIAGONAL_ITEM.true) c.put_rotations.ensures
+
+pub put_rotations-q-requires : goal.put_rotations-q-requires
+put_rotations-q-requires c =
+    let a = c.args in
+    let w = interaction a.i a.block a.j (unit_of (interaction_of a.v)) in
+    first-room a.p a.ops.now (rotations_of a.i a.j a.v) (w ∷ [])
+    (rw (two-interaction a.block a.kind a.i a.j a.v c.if-kind-eq-INTERACTION_ITEM.true) at c.requires.v_in_bounds)
+
+pub put-requires : goal.put-requires
+put-requires c =
+    let a = c.args in
+    let w = interaction a.i a.block a.j (unit_of (interaction_of a.v)) in
+    let room = next-room a.p a.ops.now (rotations_of a.i a.j a.v) (w ∷ []) (rw (two-interaction a.block a.kind a.i a.j a.v c.if-kind-eq-INTERACTION_ITEM.true) at c.requires.v_in_bounds) c.put_rotations-q.new.ops c.put_rotations-q.result c.put_rotations-q.ensures in
+    (omega (arith, room, one-long w), ap length c.interaction_places.ensures)
+
+pub overflow_add-result : goal.overflow_add-result
+overflow_add-result c =
+    let a = c.args in
+    let w = interaction a.i a.block a.j (unit_of (interaction_of a.v)) in
+    let room = next-room a.p a.ops.now (rotations_of a.i a.j a.v) (w ∷ []) (rw (two-interaction a.block a.kind a.i a.j a.v c.if-kind-eq-INTERACTION_ITEM.true) at c.requires.v_in_bounds) c.put_rotations-q.new.ops c.put_rotations-q.result c.put_rotations-q.ensures in
+    omega (arith, room, one-long w, c.well_formed.0, put-length a.p a.ops.now (rotations_of a.i a.j a.v) c.put_rotations-q.new.ops c.put_rotations-q.result c.put_rotations-q.ensures (first-room a.p a.ops.now (rotations_of a.i a.j a.v) (w ∷ []) (rw (two-interaction a.block a.kind a.i a.j a.v c.if-kind-eq-INTERACTION_ITEM.true) at c.requires.v_in_bounds)))
+
+pub returns-then-kind-eq-INTERACTION_ITEM : goal.returns-then-kind-eq-INTERACTION_ITEM
+unfolding places_of
+returns-then-kind-eq-INTERACTION_ITEM c =
+    let a = c.args in
+    let w = interaction a.i a.block a.j (unit_of (interaction_of a.v)) in
+    let e = two-interaction a.block a.kind a.i a.j a.v c.if-kind-eq-INTERACTION_ITEM.true in
+    rw e
+    (put_both a.p a.ops.now (rotations_of a.i a.j a.v) (w ∷ []) (rw e at c.requires.v_in_bounds) c.put_rotations-q.new.ops c.put.new.ops c.put_rotations-q.result (c.put_rotations-q.result + op_places) c.put_rotations-q.ensures
+    (put_one c.put_rotations-q.result c.put_rotations-q.new.ops w c.put.new.ops c.interaction_places.result (c.interaction_places.ensures ∙ rw (c.unit.ensures, c.interaction.ensures)) c.put.ensures))
+
+pub returns : goal.returns
+returns c =
+    let a = c.args in
+    rw (two-neither a.block a.kind a.i a.j a.v c.requires.kind_nonzero c.if-kind-eq-DIAGONAL_ITEM.false c.if-kind-eq-INTERACTION_ITEM.false) (put-none a.p a.ops.now)

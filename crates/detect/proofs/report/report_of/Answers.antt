@@ -1,0 +1,6 @@
+use Rattle.detect.specs.Report.{report_of}
+use Rattle.detect.proofs.report.report_of.Goals as goal
+
+pub returns : goal.returns
+unfolding report_of
+returns c = rw (c.exact-exact.ensures, c.written-operations.ensures, c.fraction-fraction.ensures)
