@@ -15,7 +15,10 @@ use Rattle.laws.specs.Bounds.{max_qubits}
 use Rattle.laws.proofs.Cases.{eq-or-ne}
 use Rattle.laws.proofs.Tests.{and_left, and_right, all-each}
 use Rattle.pfaffian.specs.Shot.{bit}
+use Rattle.laws.specs.Tables.{mode_at}
 use Rattle.state.specs.Bounds.{dim_of}
+use Rattle.state.specs.Modes.{is_permutation}
+use Rattle.state.proofs.Permutations.{mode-below}
 use Rattle.state.proofs.Questions.{square-few}
 use Rattle.queries.specs.Lists.{odd_modes, mode_listed, odd_mode, noted, conflicts_of, contradicts, bits_ok, noted_modes}
 use Rattle.queries.specs.Inner.{Marked, Listed, Modes}
@@ -161,3 +164,7 @@ listed-few n f count array w = omega (arith, w.size, (passing-ascends (λ k. ltb
 pub listed-square : (n : ℕ) (f : ℕ → ℕ) (count : ℕ) (array : List ℕ) → n ≤ max_qubits → Listed (noted_modes n f) count array
     → 2 * count * (2 * count) ≤ dim_of max_qubits * dim_of max_qubits
 listed-square n f count array few w = square-few count (omega (arith, listed-few n f count array w))
+
+-- the mode of a qubit, as it is read from the table
+pub mode-read : (n : ℕ) (l : List ℕ) (q k : ℕ) → is_permutation n l ≡ true → q < n → k ≡ mode_at l q → k < n
+mode-read n l q k p h e = omega (arith, e, mode-below n l p q h)

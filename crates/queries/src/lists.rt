@@ -95,8 +95,8 @@ fn step(mark: u8) -> usize
 
 // The modes below n that something is noted of, ascending, and their number.
 pub fn list_modes(marks: &[u8], n: usize, list: &mut [usize]) -> usize
-    requires n_in_bounds { n ≤ length marks.now }
-    requires n_in_bounds_2 { n ≤ length list.old }
+    requires marks_room { n ≤ length marks.now }
+    requires list_room { n ≤ length list.old }
     ensures { Listed (noted_modes n (mark_at marks.now)) result list.new }
 {
     let mut count = 0;

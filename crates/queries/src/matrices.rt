@@ -111,7 +111,7 @@ fn shift_pairs(work: &mut [f64], list: &[usize], count: usize, marks: &[u8])
 pub fn ask(state: &[f64], n: usize, list: &[usize], count: usize, marks: &[u8], work: &mut [f64])
     requires ready { Ready n state.now }
     requires modes { Modes n (2 * count) list.now }
-    requires modes_2 { Modes (length marks.now) (2 * count) list.now }
+    requires marked_modes { Modes (length marks.now) (2 * count) list.now }
     requires count_in_bounds { 2 * count * (2 * count) ≤ length work.old }
     ensures { work.new ≡ matrix (2 * count) (asked_matrix (covariance_of n state.now) (mark_at marks.now)
         list.now) work.old }

@@ -83,8 +83,8 @@ fn take_shots(
     out: &mut [u64],
 )
     requires ready { Ready n state.now }
-    requires n_in_bounds { n ≤ length modes.now }
-    requires n_in_bounds_2 { 2 * n * (2 * n) ≤ length work.old }
+    requires modes_room { n ≤ length modes.now }
+    requires work_room { 2 * n * (2 * n) ≤ length work.old }
     requires shots_in_bounds { (n * shots ≤ length draws.now) × (2 * shots ≤ length out.old) }
     ensures out { out.new ≡ sampled (covariance_of n state.now) n modes.now shots draws.now
         out.old }
@@ -113,8 +113,8 @@ fn sample_worked(
     out: &mut [u64],
 ) -> Applied
     requires ready { Ready n state.now }
-    requires n_in_bounds { n ≤ length modes.now }
-    requires n_in_bounds_2 { 2 * n * (2 * n) ≤ length work.old }
+    requires modes_room { n ≤ length modes.now }
+    requires work_room { 2 * n * (2 * n) ≤ length work.old }
     ensures answer { done result ≡ shots_of n shots draws.now out.old }
     ensures out { out.new ≡ shots_out (covariance_of n state.now) n modes.now shots draws.now
         out.old }
