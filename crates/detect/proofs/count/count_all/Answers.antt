@@ -1,7 +1,6 @@
 -- `detect::count::count_all` meets its contract: after i records the counts are those of their items, and the operations of matchgates among them are kept. Assumes nothing.
 use mathlib.Core.Path.{◌≡◌, sym, ap, ap₂, ◌∙◌, subst}
-use mathlib.Core.Logic.{⊎_elim}
-use Prim.Native.Nat.{◌+◌, ◌*◌, ◌-◌, ◌≤◌}
+use Prim.Native.Nat.{◌+◌, ◌≤◌}
 use native.Mathlib.Nat.{le_antisymm}
 use native.Mathlib.Omega.{arith}
 use lib.ListN.{length}
@@ -13,6 +12,7 @@ use Rattle.detect.proofs.Sums.{share-adds, counts-add, adds-small, counts-none, 
 use Rattle.detect.proofs.Keeping.{record-stays, counted_none, counted_same, counted-turn}
 use Rattle.work.specs.Rows.{FloatsAt}
 use Rattle.detect.proofs.count.count_all.Goals as goal
+use Rattle.detect.proofs.count.count_all.Goals.{then-is_item, else-is_item}
 
 pub loop-i-init : goal.loop-i-init
 loop-i-init c =
@@ -54,18 +54,18 @@ loop-i-preserved c =
     let t = c.loop-i-test.true in
     let more : l.i + 1 ≤ c.args.m = omega (arith, t) in
     let fit : FloatsAt l.w l.i = omega (arith, c.requires.floats, t, l.invariant.2.size) in
-    ⊎_elim
-    (λ t.
-    let is = rw c.mark.ensures at (sym c.is_item.ensures ∙ t.0.true) in
-    let share = t.2.ensures.0 ∙ ap (share_of c.args.tol (modes_in u)) (record-stays w l.w u l.invariant.2.same l.i) in (
-      more,
-      t.7 ∙ t.5.ensures ∙ ap₂ plus_of l.invariant.1 share ∙ sym (ap f (items_more w u l.i is) ∙ counts-more c.args.tol (modes_in u) _ (items_in w u l.i)),
-      counted-turn w u l.c l.w l.i l.invariant.2 c.args.tol fit t.2.result _ _ t.2.ensures.0 (t.7 ∙ t.5.ensures) (t.6 ∙ t.2.ensures.1),
-    ))
-    (λ t.
-    let is = rw c.mark.ensures at (sym c.is_item.ensures ∙ t.0.left) in
-    rw (t.1, t.2) (more, l.invariant.1 ∙ sym (ap f (items-same w u l.i is)), counted_same w u l.c l.w l.i l.invariant.2 is))
-    c.if-is_item.branch
+    elim c.if-is_item.branch [
+      | then-is_item t ↦
+          let is = rw c.mark.ensures at (sym c.is_item.ensures ∙ t.if-is_item.true) in
+          let share = t.share_at.ensures.share ∙ ap (share_of c.args.tol (modes_in u)) (record-stays w l.w u l.invariant.2.same l.i) in (
+            more,
+            t.c-is ∙ t.plus-c.ensures ∙ ap₂ plus_of l.invariant.1 share ∙ sym (ap f (items_more w u l.i is) ∙ counts-more c.args.tol (modes_in u) _ (items_in w u l.i)),
+            counted-turn w u l.c l.w l.i l.invariant.2 c.args.tol fit t.share_at.result _ _ t.share_at.ensures.share (t.c-is ∙ t.plus-c.ensures) (t.w-is ∙ t.share_at.ensures.kept),
+          )
+      | else-is_item t ↦
+          let is = rw c.mark.ensures at (sym c.is_item.ensures ∙ t.if-is_item.false) in
+          rw (t.w-is, t.c-is) (more, l.invariant.1 ∙ sym (ap f (items-same w u l.i is)), counted_same w u l.c l.w l.i l.invariant.2 is)
+    ]
 
 pub returns : goal.returns
 returns c =

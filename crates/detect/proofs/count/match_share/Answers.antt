@@ -13,8 +13,11 @@ put-requires c =
 pub returns-then-beside : goal.returns-then-beside
 unfolding match_share adjacent_share match_kept
 returns-then-beside c =
-    record { share = rw (c.gaussian_share.ensures, c.max.ensures, c.number_conserving4-conserving.ensures, c.majorana_map2-m.ensures, c.oriented.ensures, ← c.beside.ensures, c.if-beside.true); kept = rw (← c.beside.ensures, c.if-beside.true)
-          (rw (c.two_places.ensures, c.lower.ensures, c.majorana_map2-m.ensures, c.oriented.ensures) at c.put.ensures) }
+    record {
+      share = rw (c.gaussian_share.ensures, c.max.ensures, c.number_conserving4-conserving.ensures, c.majorana_map2-m.ensures, c.oriented.ensures, ← c.beside.ensures, c.if-beside.true);
+      kept = rw (← c.beside.ensures, c.if-beside.true)
+          (rw (c.two_places.ensures, c.lower.ensures, c.majorana_map2-m.ensures, c.oriented.ensures) at c.put.ensures);
+    }
 
 pub returns : goal.returns
 unfolding match_share match_kept

@@ -1,13 +1,9 @@
 -- `detect::count::share_at` meets its contract: the kind says which item the record holds. Assumes nothing.
 use mathlib.Core.Path.{refl}
-use Prim.Native.Nat.{◌<◌}
 use native.Mathlib.Omega.{arith}
-use borrow.Author.Rules.{rules}
 use borrow.Author.Tests.{eq-eqb, ne_eqb}
-use Rattle.work.specs.Marks.{mark_at}
 use Rattle.detect.specs.Kept.{two_kept}
 use Rattle.detect.proofs.count.share_at.Goals as goal
-use Rattle.detect.proofs.count.share_at.Goals.{Else-kind-eq-OPAQUE_ITEM}
 
 pub returns-then-kind-eq-ONE_ITEM : goal.returns-then-kind-eq-ONE_ITEM
 unfolding two_kept
@@ -19,15 +15,11 @@ unfolding two_kept
 returns-then-kind-eq-OPAQUE_ITEM c =
     record { share = rw (c.bad_share.ensures, ← c.mark-kind.ensures, eq-eqb _ _ c.if-kind-eq-OPAQUE_ITEM.true, ne_eqb _ _ c.if-kind-eq-ONE_ITEM.false); kept = rw (← c.mark-kind.ensures, c.if-kind-eq-OPAQUE_ITEM.true) refl }
 
--- the item is on two wires
-two-below : (c : Else-kind-eq-OPAQUE_ITEM) → (mark_at c.args.u.now c.args.i 1 < c.args.n) × (mark_at c.args.u.now c.args.i 2 < c.args.n)
-two-below c = rw (← c.mark-kind.ensures, ne_eqb _ _ c.if-kind-eq-ONE_ITEM.false, ne_eqb _ _ c.if-kind-eq-OPAQUE_ITEM.false) at c.requires.3
-
 pub mark-p-requires : goal.mark-p-requires
-mark-p-requires c = omega (arith, (two-below c.before.before).0, c.mark-a.ensures, c.requires.2)
+mark-p-requires c = let below = rw (← c.mark-kind.ensures, ne_eqb _ _ c.if-kind-eq-ONE_ITEM.false, ne_eqb _ _ c.if-kind-eq-OPAQUE_ITEM.false) at c.requires.3 in omega (arith, below.0, c.mark-a.ensures, c.requires.2)
 
 pub mark-q-requires : goal.mark-q-requires
-mark-q-requires c = omega (arith, (two-below c.before.before.before).1, c.mark-b.ensures, c.requires.2)
+mark-q-requires c = let below = rw (← c.mark-kind.ensures, ne_eqb _ _ c.if-kind-eq-ONE_ITEM.false, ne_eqb _ _ c.if-kind-eq-OPAQUE_ITEM.false) at c.requires.3 in omega (arith, below.1, c.mark-b.ensures, c.requires.2)
 
 -- the kept operation is inside the record
 pub overflow_add-at : goal.overflow_add-at

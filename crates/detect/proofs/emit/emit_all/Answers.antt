@@ -1,13 +1,19 @@
 -- `detect::emit::emit_all` meets its contract: after i records the operations of their items are written. Assumes nothing.
 use mathlib.Core.Path.{◌≡◌, refl, sym, ap, ◌∙◌}
 use mathlib.Core.Logic.{⊎_elim}
-use mathlib.Core.List.{◌++◌}
+use mathlib.Core.List.{List, ◌++◌}
 use Prim.Native.Nat.{◌+◌, ◌-◌, ◌≤◌}
 use native.Mathlib.Nat.{le_antisymm}
 use native.Mathlib.Omega.{arith}
 use lib.ListN.{length}
+use Rattle.work.specs.Columns.{kind_column}
+use Rattle.detect.specs.Records.{is_item_of}
+use Rattle.work.specs.Marks.{mark_at}
+use lib.Ieee.{Float}
+use Prim.Native.Nat.{ℕ, ◌<◌}
+use mathlib.Core.Bool.{true}
 use Rattle.detect.specs.Operation.{all_places, written, Put}
-use Rattle.detect.specs.Emit.{item_operations}
+use Rattle.detect.specs.Emit.{item_operations, operations_in}
 use Rattle.detect.specs.Records.{record_item, items_in, modes_in}
 use Rattle.detect.proofs.Items.{items-same, items-none, items-few, below_at}
 use Rattle.detect.proofs.Placing.{put-none, next-room}
@@ -40,7 +46,7 @@ put_item-p-requires c =
     let t = c.loop-i-test.true in
     let pos = modes_in a.u.now in
     let is = rw c.mark.ensures at (sym c.is_item.ensures ∙ c.if-is_item.true) in
-    record { item_there = ((omega (arith, h.floats, t), omega (arith, h.marks, t), h.modes, below_at a.w.now a.u.now a.n a.m l.i h.below t is), c.requires.held.1 l.i t); i_in_bounds = rw l.invariant.2 (next-room 0 a.ops.now (emitted a.w.now a.u.now pos l.i) (item_operations pos (length (items_in a.w.now a.u.now l.i)) (record_item a.w.now a.u.now l.i)) (room a.w.now a.u.now a.ops.now a.m l.i c.requires.m_in_bounds t is) l.ops l.p l.invariant.1) }
+    record { item_there = ((omega (arith, h.floats, t), omega (arith, h.marks, t), h.modes, below_at a.w.now a.u.now a.n a.m l.i h.below t is), c.requires.held.1 l.i t); i_in_bounds = rw l.invariant.2 (next-room 0 a.ops.now (emitted a.w.now a.u.now pos l.i) (item_operations pos (length (items_in a.w.now a.u.now l.i)) (record_item a.w.now a.u.now l.i)) (omega (arith, room a.w.now a.u.now a.ops.now a.m l.i c.requires.m_in_bounds t is)) l.ops l.p l.invariant.1) }
 
 pub overflow_add-block : goal.overflow_add-block
 overflow_add-block c =
@@ -54,16 +60,16 @@ loop-i-preserved c =
     let pos = modes_in a.u.now in
     let more : l.i + 1 ≤ a.m = omega (arith, c.loop-i-test.true) in
     elim c.if-is_item.branch [
-      then-is_item w ↦
-        let is = rw c.mark.ensures at (sym c.is_item.ensures ∙ w.if-is_item.true) in
-        let fits = room a.w.now a.u.now a.ops.now a.m l.i c.requires.m_in_bounds c.loop-i-test.true is in
-        let all = turn-put a.w.now a.u.now pos l.i l.p w.put_item-p.result l.block a.ops.now l.ops w.put_item-p.new.ops is l.invariant.1 l.invariant.2 w.put_item-p.ensures fits in
-        let number = turn-number a.w.now a.u.now pos l.i l.p w.put_item-p.result l.block a.ops.now l.ops w.put_item-p.new.ops is l.invariant.1 l.invariant.2 w.put_item-p.ensures fits in
-        let long = turn-length a.w.now a.u.now pos l.i l.p w.put_item-p.result l.block a.ops.now l.ops w.put_item-p.new.ops is l.invariant.1 l.invariant.2 w.put_item-p.ensures fits in
-        rw (w.ops-is, w.p-is, w.block-is) (more, all, number, long)
-    | else-is_item w ↦
-        let is = rw c.mark.ensures at (sym c.is_item.ensures ∙ w.if-is_item.false) in
-        rw (w.ops-is, w.p-is, w.block-is, emitted-same a.w.now a.u.now pos l.i is, items-same a.w.now a.u.now l.i is) (more, l.invariant.1, l.invariant.2, l.invariant.3)
+      | then-is_item w ↦
+          let is = rw c.mark.ensures at (sym c.is_item.ensures ∙ w.if-is_item.true) in
+          let fits = room a.w.now a.u.now a.ops.now a.m l.i c.requires.m_in_bounds c.loop-i-test.true is in
+          let all = turn-put a.w.now a.u.now pos l.i l.p w.put_item-p.result l.block a.ops.now l.ops w.put_item-p.new.ops is l.invariant.1 l.invariant.2 w.put_item-p.ensures fits in
+          let number = turn-number a.w.now a.u.now pos l.i l.p w.put_item-p.result l.block a.ops.now l.ops w.put_item-p.new.ops is l.invariant.1 l.invariant.2 w.put_item-p.ensures fits in
+          let long = turn-length a.w.now a.u.now pos l.i l.p w.put_item-p.result l.block a.ops.now l.ops w.put_item-p.new.ops is l.invariant.1 l.invariant.2 w.put_item-p.ensures fits in
+          rw (w.ops-is, w.p-is, w.block-is) (more, all, number, long)
+      | else-is_item w ↦
+          let is = rw c.mark.ensures at (sym c.is_item.ensures ∙ w.if-is_item.false) in
+          rw (w.ops-is, w.p-is, w.block-is, emitted-same a.w.now a.u.now pos l.i is, items-same a.w.now a.u.now l.i is) (more, l.invariant.1, l.invariant.2, l.invariant.3)
     ]
 
 pub returns : goal.returns

@@ -3,7 +3,6 @@ use mathlib.Core.Path.{refl, sym, ap, ◌∙◌}
 use mathlib.Core.List.{◌++◌}
 use Prim.Native.Nat.{◌+◌}
 use native.Mathlib.Omega.{arith}
-use borrow.Author.Rules.{rules}
 use lib.ListN.{length, take, drop}
 use Rattle.laws.specs.Bounds.{op_places}
 use Rattle.work.specs.Marks.{mark_at}
@@ -31,7 +30,9 @@ copy-requires c =
 
 pub overflow_add-result : goal.overflow_add-result
 overflow_add-result c =
-    omega (arith, (copy-requires c.before.before.before).1, c.well_formed.1.1.1.1.1.0)
+    let a = c.args in
+    let e = record-match a.w.now a.u.now (modes_in a.u.now) a.block a.i (sym c.mark-kind.ensures ∙ c.if-kind-eq-MATCH_ITEM.true) in
+    omega (arith, c.requires.i_in_bounds, ap (λ os. length (all_places os)) e, one-long (match_of a.w.now a.u.now (modes_in a.u.now) a.i), c.well_formed.1.1.1.1.1.0)
 
 pub returns-then-kind-eq-MATCH_ITEM : goal.returns-then-kind-eq-MATCH_ITEM
 unfolding places_of
@@ -59,7 +60,9 @@ put-requires c =
 
 pub overflow_add-result-then-kind-eq-ONE_ITEM : goal.overflow_add-result-then-kind-eq-ONE_ITEM
 overflow_add-result-then-kind-eq-ONE_ITEM c =
-    omega (arith, (put-requires c.before.before.before).0, c.well_formed.1.1.1.1.1.0)
+    let a = c.args in
+    let e = record-one a.w.now a.u.now a.i (sym c.mark-kind.ensures ∙ c.if-kind-eq-ONE_ITEM.true) in
+    omega (arith, c.requires.i_in_bounds, ap (λ x. length (all_places (item_operations (modes_in a.u.now) a.block x))) e, one-long (one (modes_in a.u.now (mark_at a.u.now a.i 1)) (majorana_map1_of (matrix2_of a.w.now a.i)).q), c.well_formed.1.1.1.1.1.0)
 
 pub returns-then-kind-eq-ONE_ITEM : goal.returns-then-kind-eq-ONE_ITEM
 unfolding places_of
@@ -67,7 +70,7 @@ returns-then-kind-eq-ONE_ITEM c =
     let a = c.args in
     let q = (majorana_map1_of (matrix2_of a.w.now a.i)).q in
     rw (record-one a.w.now a.u.now a.i (sym c.mark-kind.ensures ∙ c.if-kind-eq-ONE_ITEM.true))
-    (put_one a.p a.ops.now (one (modes_in a.u.now (mark_at a.u.now a.i 1)) q) c.put.new.ops c.one_places.result
+    (put_one a.p a.ops.now (one (modes_in a.u.now (mark_at a.u.now a.i 1)) q) c.put.new.l c.one_places.result
     (c.one_places.ensures ∙ rw (c.majorana_map1-m.ensures, c.matrix2.ensures, c.mark-k.ensures, c.mark-a.ensures)) c.put.ensures)
 
 pub mark-j-requires : goal.mark-j-requires
@@ -79,7 +82,9 @@ mark-j-requires c =
 pub put_two-requires : goal.put_two-requires
 put_two-requires c =
     let a = c.args in
-    record { kind_nonzero = c.if-kind-eq-MATCH_ITEM.false; v_in_bounds = rw (
+    record {
+      kind_nonzero = c.if-kind-eq-MATCH_ITEM.false;
+      v_in_bounds = rw (
         c.matrix4.ensures,
         c.mark-j.ensures,
         c.mark-b.ensures,
@@ -87,7 +92,8 @@ put_two-requires c =
         c.mark-a.ensures,
         c.mark-kind.ensures,
         ← ap (λ x. length (all_places (item_operations (modes_in a.u.now) a.block x))) (record-two a.w.now a.u.now a.i (λ e. c.if-kind-eq-ONE_ITEM.false (c.mark-kind.ensures ∙ e)) (λ e. c.if-kind-eq-OPAQUE_ITEM.false (c.mark-kind.ensures ∙ e))),
-      ) c.requires.i_in_bounds }
+      ) c.requires.i_in_bounds;
+    }
 
 pub returns : goal.returns
 returns c =

@@ -1,7 +1,6 @@
 -- `detect::emit::put_rotation` meets its contract. Assumes nothing.
 use mathlib.Core.Path.{ap}
 use native.Mathlib.Omega.{arith}
-use borrow.Author.Rules.{rules}
 use lib.ListN.{length}
 use Rattle.detect.proofs.Emitting.{by-long, put-by, put-nothing}
 use Rattle.detect.proofs.emit.put_rotation.Goals as goal
@@ -13,7 +12,7 @@ put-requires c =
 pub returns-in-By : goal.returns-in-By
 returns-in-By c =
     let a = c.args in
-    put-by a.k a.x c.in-By.is a.p a.ops.now c.put.new.ops c.one_places.result c.one_places.ensures c.put.ensures
+    put-by a.k a.x c.in-By.is a.p a.ops.now c.put.new.l c.one_places.result c.one_places.ensures c.put.ensures
 
 pub returns-in-Nothing : goal.returns-in-Nothing
 returns-in-Nothing c =

@@ -1,5 +1,4 @@
 -- `detect::emit::put_rotations` meets its contract: the first wire's rotation, then the second's. Assumes nothing.
-use borrow.Author.Rules.{rules}
 use Rattle.classify.specs.Diagonal.{phase_a_of, phase_b_of, rotation_of}
 use Rattle.detect.specs.Emit.{rotated, rotations_of}
 use Rattle.detect.proofs.Placing.{first-room, next-room, put_both}

@@ -3,7 +3,6 @@ use mathlib.Core.Path.{ap, ◌∙◌}
 use mathlib.Core.List.{[], ◌∷◌}
 use Prim.Native.Nat.{◌+◌}
 use native.Mathlib.Omega.{arith}
-use borrow.Author.Rules.{rules}
 use lib.ListN.{length}
 use Rattle.laws.specs.Bounds.{op_places}
 use Rattle.classify.specs.Diagonal.{interaction_of, unit_of}
@@ -51,8 +50,8 @@ returns-then-kind-eq-INTERACTION_ITEM c =
     let w = interaction a.i a.block a.j (unit_of (interaction_of a.v)) in
     let e = two-interaction a.block a.kind a.i a.j a.v c.if-kind-eq-INTERACTION_ITEM.true in
     rw e
-    (put_both a.p a.ops.now (rotations_of a.i a.j a.v) (w ∷ []) (rw e at c.requires.v_in_bounds) c.put_rotations-q.new.ops c.put.new.ops c.put_rotations-q.result (c.put_rotations-q.result + op_places) c.put_rotations-q.ensures
-    (put_one c.put_rotations-q.result c.put_rotations-q.new.ops w c.put.new.ops c.interaction_places.result (c.interaction_places.ensures ∙ rw (c.unit.ensures, c.interaction.ensures)) c.put.ensures))
+    (put_both a.p a.ops.now (rotations_of a.i a.j a.v) (w ∷ []) (rw e at c.requires.v_in_bounds) c.put_rotations-q.new.ops c.put.new.l c.put_rotations-q.result (c.put_rotations-q.result + op_places) c.put_rotations-q.ensures
+    (put_one c.put_rotations-q.result c.put_rotations-q.new.ops w c.put.new.l c.interaction_places.result (c.interaction_places.ensures ∙ rw (c.unit.ensures, c.interaction.ensures)) c.put.ensures))
 
 pub returns : goal.returns
 returns c =
