@@ -1,0 +1,19 @@
+-- `engine::states::jozkeral_expectation_z_product` meets its contract: the query's answer is told, where there is room. Assumes nothing.
+use mathlib.Core.Path.{sym, ◌∙◌}
+use borrow.Author.Rules.{rules}
+use Rattle.engine.proofs.Room.{tells_none}
+use Rattle.engine.proofs.states.jozkeral_expectation_z_product.Goals as goal
+
+pub tell-requires : goal.tell-requires
+tell-requires c =
+    sym c.has_places.ensures ∙ c.if-has_places.true
+
+pub returns-then-has_places : goal.returns-then-has_places
+returns-then-has_places c =
+    let room = sym c.has_places.ensures ∙ c.if-has_places.true in
+    record { answer = rw c.expectation_z_product-a.ensures.answer at c.tell.ensures; work = rw room c.expectation_z_product-a.ensures.work }
+
+pub returns : goal.returns
+returns c =
+    let short = sym c.has_places.ensures ∙ c.if-has_places.false in
+    record { answer = tells_none _ _ _ short; work = rw short }

@@ -1,0 +1,21 @@
+-- `engine::tapes::jozkeral_compile` meets its contract: the answer and the report of `compile` are told, where there is room. Assumes nothing.
+use mathlib.Core.Path.{sym, ◌∙◌}
+use borrow.Author.Rules.{rules}
+use Rattle.engine.proofs.Room.{reports-none}
+use Rattle.engine.proofs.tapes.jozkeral_compile.Goals as goal
+
+pub put_report-requires : goal.put_report-requires
+put_report-requires c =
+    sym c.has_report.ensures ∙ c.if-has_report.true
+
+pub returns-then-has_report : goal.returns-then-has_report
+returns-then-has_report c =
+    let room = sym c.has_report.ensures ∙ c.if-has_report.true in
+    let answer = c.compile-c.ensures.answer in
+    let slices = c.compile-c.ensures.1 in
+    record { answer = rw answer at c.put_report.ensures; work = rw room slices.0; marks = rw room slices.1.0; ops = rw room slices.1.1 }
+
+pub returns : goal.returns
+returns c =
+    let short = sym c.has_report.ensures ∙ c.if-has_report.false in
+    record { answer = reports-none _ _ _ _ _ short; work = rw short; marks = rw short; ops = rw short }

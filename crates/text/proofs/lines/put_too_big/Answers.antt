@@ -1,0 +1,13 @@
+-- `text::lines::put_too_big` meets its contract. Assumes nothing.
+use borrow.Author.Rules.{rules}
+use Rattle.text.specs.Ascii.{ascii}
+use Rattle.text.specs.Lines.{too_big_line}
+use Rattle.text.proofs.lines.put_too_big.Goals as goal
+
+pub put-requires : goal.put-requires
+unfolding ascii too_big_line
+put-requires c = c.requires
+
+pub returns : goal.returns
+unfolding ascii too_big_line
+returns c = c.put.ensures

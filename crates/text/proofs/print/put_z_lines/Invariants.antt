@@ -1,0 +1,18 @@
+-- `text::print::put_z_lines` meets its contract: the lines of the first q qubits have been written. Assumes nothing.
+use mathlib.Core.Path.{subst}
+use mathlib.Core.List.{List}
+use Prim.Native.Nat.{ℕ, ◌-◌, ◌≤◌}
+use native.Mathlib.Nat.{le_antisymm}
+use native.Mathlib.Omega.{arith}
+use lib.Ieee.{Float}
+use Rattle.text.specs.Lines.{z_line, z_lines}
+use Rattle.text.specs.Print.{z_at}
+use Rattle.text.specs.Put.{Put}
+use Rattle.text.proofs.Pieces.{piece-room, piece-put, pieces_none}
+use Rattle.text.proofs.print.put_z_lines.Given as goal
+
+abbrev pub invariant-loop-q : goal.invariant-loop-q
+invariant-loop-q l = (l.q ≤ l.n) × Put (z_lines (z_at l.n l.state l.modes) l.q) l.at l.initial.out l.out l.next
+
+abbrev pub decreases-loop-q : goal.decreases-loop-q
+decreases-loop-q l = l.n - l.q
