@@ -12,8 +12,7 @@ pub returns-then-has_report : goal.returns-then-has_report
 returns-then-has_report c =
     let room = sym c.has_report.ensures ∙ c.if-has_report.true in
     let answer = c.compile-c.ensures.answer in
-    let slices = c.compile-c.ensures.1 in
-    record { answer = rw answer at c.put_report.ensures; work = rw room slices.0; marks = rw room slices.1.0; ops = rw room slices.1.1 }
+    record { answer = rw answer at c.put_report.ensures; work = rw room c.compile-c.ensures.work; marks = rw room c.compile-c.ensures.marks; ops = rw room c.compile-c.ensures.ops }
 
 pub returns : goal.returns
 returns c =

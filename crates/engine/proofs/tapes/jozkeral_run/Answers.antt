@@ -14,9 +14,8 @@ pub returns-then-has_report : goal.returns-then-has_report
 returns-then-has_report c =
     let room = sym c.has_report.ensures ∙ c.if-has_report.true in
     let answer = c.run-c.ensures.answer in
-    let slices = c.run-c.ensures.1 in
     let tells = c.put_report.ensures in
-    record { answer = rw answer at tells; work = rw room slices.0; marks = rw room slices.1.0; ops = rw room slices.1.1.0; state = rw room slices.1.1.1.0; register = claim-told _ _ _ _ _ _ _ _ _ _ _ _ _ _ _ _ tells (λ h. slices.1.1.1.1) }
+    record { answer = rw answer at tells; work = rw room c.run-c.ensures.work; marks = rw room c.run-c.ensures.marks; ops = rw room c.run-c.ensures.ops; state = rw room c.run-c.ensures.state; register = claim-told _ _ _ _ _ _ _ _ _ _ _ _ _ _ _ _ tells (λ h. c.run-c.ensures.register) }
 
 pub returns : goal.returns
 returns c =
