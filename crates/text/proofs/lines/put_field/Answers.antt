@@ -1,5 +1,4 @@
 -- `text::lines::put_field` meets its contract: the word, then the number. Assumes nothing.
-use borrow.Author.Rules.{rules}
 use Rattle.text.specs.Ascii.{decimal}
 use Rattle.text.proofs.Putting.{put_then, next-room, first-room}
 use Rattle.text.proofs.lines.put_field.Goals as goal

@@ -1,5 +1,4 @@
 -- `text::lines::put_too_big` meets its contract. Assumes nothing.
-use borrow.Author.Rules.{rules}
 use Rattle.text.specs.Ascii.{ascii}
 use Rattle.text.specs.Lines.{too_big_line}
 use Rattle.text.proofs.lines.put_too_big.Goals as goal

@@ -5,7 +5,6 @@ use Prim.Native.Nat.{ℕ, ◌<◌}
 use native.Mathlib.Omega.{arith}
 use lib.Dec.{T}
 use lib.Ieee.{binary64, fits}
-use borrow.Author.Rules.{rules}
 use Rattle.text.proofs.Values.{range-number, field-most, millionths-low, millionths-high}
 use Rattle.text.proofs.millionths.millionths.Goals as goal
 use Rattle.text.proofs.millionths.millionths.Goals.{Start}

@@ -3,7 +3,6 @@ use mathlib.Core.Path.{sym}
 use Prim.Native.Nat.{◌-◌, ◌^◌}
 use native.Mathlib.Nat.{div-le_self}
 use native.Mathlib.Omega.{arith}
-use borrow.Author.Rules.{rules}
 use Rattle.text.proofs.Rounding.{cut, cut_below, rounded-cut, rounded-none}
 use Rattle.text.proofs.millionths.nearest.Goals as goal
 

@@ -4,14 +4,12 @@ use mathlib.Core.Logic.{◌≢◌}
 use mathlib.Core.Bool.{Bool, true, false}
 use mathlib.Core.List.{◌++◌}
 use Prim.Native.Nat.{ℕ, ◌+◌, ◌≤◌}
-use borrow.Author.Rules.{rules}
 use borrow.Author.Tests.{eq-eqb, ne_eqb}
 use lib.ListN.{length}
 use Rattle.text.specs.Ascii.{ascii, decimal}
 use Rattle.text.specs.Millionths.{signed}
 use Rattle.text.proofs.Putting.{put_then, next-room, first-room}
 use Rattle.text.proofs.millionths.put_signed.Goals as goal
-use Rattle.text.proofs.millionths.put_signed.Goals.{Then-minus}
 
 -- ---- the text, by the tests
 zero : (m : Bool) (k : ℕ) → k ≡ 0 → decimal k ≡ signed m k
@@ -36,20 +34,18 @@ returns-then-k-eq0 c =
     rw (← zero c.args.minus c.args.k c.if-k-eq0.true) c.put_decimal.ensures
 
 -- the text below zero
-room : (c : Then-minus) → c.args.at + length (ascii "-" ++ decimal c.args.k)
-    ≤ length c.args.out.now
-room c =
-    rw (below c.args.k c.if-k-eq0.false, ← c.if-minus.true) c.requires
+room : (m : Bool) (k at len : ℕ) → k ≢ 0 → m ≡ true → at + length (signed m k) ≤ len → at + length (ascii "-" ++ decimal k) ≤ len
+room m k at len h e r = rw (below k h, ← e) r
 
 pub put-next-requires : goal.put-next-requires
 unfolding ascii
 put-next-requires c =
-    first-room (ascii "-") (decimal c.args.k) _ _ (room c.before.before.before)
+    first-room (ascii "-") (decimal c.args.k) _ _ (room c.args.minus c.args.k c.args.at _ c.if-k-eq0.false c.if-minus.true c.requires)
 
 pub put_decimal-requires-then-minus : goal.put_decimal-requires-then-minus
 unfolding ascii
 put_decimal-requires-then-minus c =
-    next-room (ascii "-") _ _ _ _ c.put-next.ensures (decimal c.args.k) (room c.before.before.before.before.before.before.before)
+    next-room (ascii "-") _ _ _ _ c.put-next.ensures (decimal c.args.k) (room c.args.minus c.args.k c.args.at _ c.if-k-eq0.false c.if-minus.true c.requires)
 
 pub returns-then-minus : goal.returns-then-minus
 unfolding ascii

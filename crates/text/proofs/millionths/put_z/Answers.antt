@@ -1,13 +1,11 @@
 -- `text::millionths::put_z` meets its contract, by its test. Assumes nothing.
 use mathlib.Core.Path.{◌≡◌, sym, ◌∙◌}
 use mathlib.Core.Bool.{true, false}
-use borrow.Author.Rules.{rules}
 use lib.Ieee.{Float, lt, of_bits}
 use Rattle.laws.specs.Zeros.{+0}
 use Rattle.text.specs.Ascii.{ascii}
 use Rattle.text.specs.Millionths.{millionths, in_range, signed, z_text}
 use Rattle.text.proofs.millionths.put_z.Goals as goal
-use Rattle.text.proofs.millionths.put_z.Goals.{Else-in_range}
 
 -- ---- the text, by the test
 inside : (x : Float) → in_range x ≡ true → signed (lt x +0) (millionths x) ≡ z_text x
@@ -25,22 +23,19 @@ millionths-requires c = sym c.in_range.ensures ∙ c.if-in_range.true
 pub put_signed-requires : goal.put_signed-requires
 unfolding of_bits
 put_signed-requires c =
-    rw (c.millionths.ensures, inside c.args.x (millionths-requires c _)) c.requires
+    rw (c.millionths.ensures, inside c.args.x (sym c.in_range.ensures ∙ c.if-in_range.true)) c.requires
 
 pub returns-then-in_range : goal.returns-then-in_range
 unfolding of_bits
 returns-then-in_range c =
-    rw (← inside c.args.x (millionths-requires c _), ← c.millionths.ensures) c.put_signed.ensures
-
-left : (c : Else-in_range) → in_range c.args.x ≡ false
-left c = sym c.in_range.ensures ∙ c.if-in_range.false
+    rw (← inside c.args.x (sym c.in_range.ensures ∙ c.if-in_range.true), ← c.millionths.ensures) c.put_signed.ensures
 
 pub put-requires : goal.put-requires
 unfolding ascii
 put-requires c =
-    rw (← outside c.args.x (left c.before.before.before)) at c.requires
+    rw (← outside c.args.x (sym c.in_range.ensures ∙ c.if-in_range.false)) at c.requires
 
 pub returns : goal.returns
 unfolding ascii
 returns c =
-    rw (← outside c.args.x (left c.before.before.before.before.before.before)) c.put.ensures
+    rw (← outside c.args.x (sym c.in_range.ensures ∙ c.if-in_range.false)) c.put.ensures

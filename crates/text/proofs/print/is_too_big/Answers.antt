@@ -5,7 +5,6 @@ use mathlib.Core.List.{List}
 use Prim.Native.Nat.{ℕ, ◌≤◌}
 use lib.Dec.{ltb}
 use lib.ListN.{length}
-use borrow.Author.Rules.{rules}
 use borrow.Author.Tests.{lt-ltb, le-ltb}
 use Rattle.tape.specs.Parse.{Parsed, refused, accepted, parse, checked_of}
 use Rattle.tape.specs.declared.check.Checked.{Checked}
@@ -13,7 +12,6 @@ use Rattle.tape.specs.declared.check.Checked.TheVariants.{Good, Refused}
 use Rattle.text.specs.Bounds.{max_tape, printed_gates, printed_qubits}
 use Rattle.text.specs.Print.{is_large, is_too_big}
 use Rattle.text.proofs.print.is_too_big.Goals as goal
-use Rattle.text.proofs.print.is_too_big.Goals.{After-check_tape-c}
 
 -- the same, of what `check_tape` answers
 checked_large : Checked → Bool
@@ -33,20 +31,16 @@ pub returns-then-tape-gt-MAX_TAPE : goal.returns-then-tape-gt-MAX_TAPE
 unfolding is_too_big
 returns-then-tape-gt-MAX_TAPE c = rw (lt-ltb _ _ c.if-tape-gt-MAX_TAPE.true)
 
--- after the check
-told : (c : After-check_tape-c) → checked_large c.check_tape-c.result ≡ is_too_big c.args.tape.now
-told c = short c.args.tape.now c.check_tape-c.result c.if-tape-gt-MAX_TAPE.false c.check_tape-c.ensures
-
 pub returns-then-gates-gt-PRINTED_GATES : goal.returns-then-gates-gt-PRINTED_GATES
 unfolding checked_large
 returns-then-gates-gt-PRINTED_GATES c =
-    rw (← told c.before.before.before.before, c.c.given.1, lt-ltb _ _ c.if-gates-gt-PRINTED_GATES.true)
+    rw (← short c.args.tape.now c.check_tape-c.result c.if-tape-gt-MAX_TAPE.false c.check_tape-c.ensures, c.in-Good.is, lt-ltb _ _ c.if-gates-gt-PRINTED_GATES.true)
 
 pub returns-in-Refused : goal.returns-in-Refused
 unfolding checked_large
-returns-in-Refused c = rw (← told c.before.before, c.enum_told.given.1)
+returns-in-Refused c = rw (← short c.args.tape.now c.check_tape-c.result c.if-tape-gt-MAX_TAPE.false c.check_tape-c.ensures, c.in-Refused.is)
 
 pub returns-else-gates-gt-PRINTED_GATES : goal.returns-else-gates-gt-PRINTED_GATES
 unfolding checked_large
 returns-else-gates-gt-PRINTED_GATES c =
-    rw (← told c.before.before.before.before.before, c.c.given.1, le-ltb _ _ c.if-gates-gt-PRINTED_GATES.false)
+    rw (← short c.args.tape.now c.check_tape-c.result c.if-tape-gt-MAX_TAPE.false c.check_tape-c.ensures, c.in-Good.is, le-ltb _ _ c.if-gates-gt-PRINTED_GATES.false)

@@ -9,4 +9,4 @@ slice_bounds-put_order_line-end c = search rules
 
 pub put_order_line-requires : goal.put_order_line-requires
 put_order_line-requires c =
-    (c.requires.0, omega (arith, c.requires.0, slice-aggregate-put-order-line c), c.requires.1)
+    (c.requires.0, search rules, c.requires.1)

@@ -1,6 +1,5 @@
 -- `text::print::put_z_all` meets its contract: the lines have room. Assumes nothing.
 use native.Mathlib.Omega.{arith}
-use borrow.Author.Rules.{rules}
 use Rattle.text.specs.Print.{z_at}
 use Rattle.text.proofs.Lengths.{z-lines-long}
 use Rattle.text.proofs.print.put_z_all.Goals as goal

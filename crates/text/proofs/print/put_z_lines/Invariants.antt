@@ -1,14 +1,8 @@
 -- `text::print::put_z_lines` meets its contract: the lines of the first q qubits have been written. Assumes nothing.
-use mathlib.Core.Path.{subst}
-use mathlib.Core.List.{List}
-use Prim.Native.Nat.{ℕ, ◌-◌, ◌≤◌}
-use native.Mathlib.Nat.{le_antisymm}
-use native.Mathlib.Omega.{arith}
-use lib.Ieee.{Float}
-use Rattle.text.specs.Lines.{z_line, z_lines}
+use Prim.Native.Nat.{◌-◌, ◌≤◌}
+use Rattle.text.specs.Lines.{z_lines}
 use Rattle.text.specs.Print.{z_at}
 use Rattle.text.specs.Put.{Put}
-use Rattle.text.proofs.Pieces.{piece-room, piece-put, pieces_none}
 use Rattle.text.proofs.print.put_z_lines.Given as goal
 
 abbrev pub invariant-loop-q : goal.invariant-loop-q

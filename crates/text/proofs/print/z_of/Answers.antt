@@ -1,6 +1,5 @@
 -- `text::print::z_of` meets its contract, by the cases of the answer. Assumes nothing.
 use mathlib.Core.Path.{◌≡◌, refl, sym, ap, ◌∙◌}
-use borrow.Author.Rules.{rules}
 use lib.Ieee.{of_bits}
 use Rattle.laws.specs.Zeros.{+0}
 use Rattle.state.specs.Answers.{refusal, told}
@@ -22,9 +21,9 @@ none (BadDraw p) = refl
 pub returns-in-Value : goal.returns-in-Value
 unfolding told
 returns-in-Value c =
-    ap (λ t. t.value) (rw c.z.given.1 at c.expectation_z-z.ensures)
+    ap (λ t. t.value) (rw c.in-Value.is at c.expectation_z-z.ensures)
 
 pub returns-in-Refused : goal.returns-in-Refused
 unfolding told of_bits
 returns-in-Refused c =
-    sym (none c.enum_told.given.0.0) ∙ ap (λ t. t.value) (rw c.enum_told.given.1 at c.expectation_z-z.ensures)
+    sym (none c.in-Refused.field-0) ∙ ap (λ t. t.value) (rw c.in-Refused.is at c.expectation_z-z.ensures)

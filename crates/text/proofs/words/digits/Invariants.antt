@@ -1,10 +1,8 @@
 -- `text::words::digits` meets its contract: each turn takes off one digit. Assumes nothing.
 use mathlib.Core.Path.{◌≡◌}
 use Prim.Native.Nat.{◌+◌}
-use native.Mathlib.Omega.{arith}
 use lib.ListN.{length}
 use Rattle.text.specs.Ascii.{decimal}
-use Rattle.text.proofs.Decimals.{long-last, long-more, long-most}
 use Rattle.text.proofs.words.digits.Given as goal
 
 abbrev pub invariant-loop-rest : goal.invariant-loop-rest

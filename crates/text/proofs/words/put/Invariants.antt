@@ -1,12 +1,8 @@
 -- `text::words::put` meets its contract: the first i bytes have been written. Assumes nothing.
-use mathlib.Core.Path.{◌≡◌, refl, ap, ◌∙◌}
+use mathlib.Core.Path.{◌≡◌}
 use Prim.Native.Nat.{◌-◌, ◌≤◌}
-use native.Mathlib.Nat.{le_antisymm}
-use native.Mathlib.Numerals.{add-one}
-use native.Mathlib.Omega.{arith}
-use lib.ListN.{length, take, length-set}
-use lib.Seq.{sets, take-length}
-use Rattle.text.proofs.Putting.{sets_more, put-piece}
+use lib.ListN.{length, take}
+use lib.Seq.{sets}
 use Rattle.text.proofs.words.put.Given as goal
 
 abbrev pub invariant-loop-i : goal.invariant-loop-i
