@@ -4,7 +4,7 @@ use mathlib.Core.Bool.{Bool, true, ◌&&◌}
 use Prim.Native.Nat.{zero}
 use lib.Dec.{T, ltb, lt→ltb, lit<}
 use lib.IntN.{ℤ, pos, nat_abs, +ℤ_idr}
-use lib.Ieee.{Float, binary64, mul, add, eq}
+use lib.Ieee.{Float, binary64, mul, eq}
 use lib.Ieee.Bits.{is_true}
 use lib.Ieee.Fits.{and_l, and_r}
 use Rattle.laws.specs.Dyadic.{Dy}

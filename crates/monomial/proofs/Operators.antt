@@ -9,7 +9,7 @@ use Rattle.laws.specs.Dyadic.{Dy}
 use Rattle.laws.specs.Phase.{i0, i1, i2, i3}
 use Rattle.real.specs.declared.maps.Real2.{Real2}
 use Rattle.real.specs.declared.maps.Real4.{Real4}
-use Rattle.gate.specs.Complex.{f0, f1, c0, c1, f2}
+use Rattle.gate.specs.Complex.{f0, f1, f2}
 use Rattle.gate.specs.Matrix.{id2, mul2_of, dag2_of, mul4_of, dag4_of}
 use Rattle.gate.specs.declared.matrix.Mat2.{Mat2}
 use Rattle.gate.specs.declared.matrix.Row4.{Row4}

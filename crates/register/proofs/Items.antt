@@ -17,7 +17,7 @@ use Rattle.tape.specs.Good.{GoodGate}
 use Rattle.tape.specs.declared.gates.Gate.{Gate}
 use Rattle.monomial.specs.Monomial.{Mono4, IsMatchgate}
 use Rattle.monomial.specs.Tolerance.{Tolerance}
-use Rattle.fuse.specs.Events.{Event, one, two}
+use Rattle.fuse.specs.Events.{Event}
 use Rattle.fuse.specs.Relabel.{slot_of, labelled, unlabelled}
 use Rattle.fuse.specs.Fuse.{fused}
 use Rattle.fuse.specs.Compress.{compressed}

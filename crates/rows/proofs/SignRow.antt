@@ -22,28 +22,7 @@ use Rattle.named.specs.Table.{f½, f-½, f-1, gate_x, gate_sx, gate_cnot}
 use Rattle.tape.specs.declared.header.Header.{Header}
 use Rattle.tape.specs.declared.gates.Gate.{Gate}
 use Rattle.tape.specs.declared.gates.Gate.TheVariants.{One, Two}
-use Rattle.majorana.specs.Majorana.{
-  largest_root_of,
-  majorana0,
-  majorana1,
-  majorana2,
-  majorana3,
-  image4_of,
-  trace_row4_of,
-  trace4_of,
-  coefficient4_of,
-  coefficients4_of,
-  less_row4_of,
-  less4_of,
-  rest4_of,
-  plus_row4_of,
-  square4_of,
-  distance4_of,
-  map_row4_of,
-  map_distance4_of,
-  majorana_map2_of,
-  swap4_of,
-}
+use Rattle.majorana.specs.Majorana.{largest_root_of, majorana0, majorana1, majorana2, majorana3, image4_of, trace_row4_of, trace4_of, coefficient4_of, coefficients4_of, less_row4_of, less4_of, rest4_of, plus_row4_of, square4_of, distance4_of, map_row4_of, map_distance4_of, majorana_map2_of}
 use Rattle.classify.specs.Diagonal.{plus_three_of, off_square_of, offdiag4_of, interaction_of, phase_none_of}
 use Rattle.classify.specs.Classify.{diagonal_of, without_phase_of, residual2_of, plain_of, classify2_of}
 use Rattle.fuse.specs.Events.{product}

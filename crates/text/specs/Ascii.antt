@@ -1,7 +1,6 @@
 -- Text as bytes: words in ASCII, and whole numbers in decimal. Definitions only. A public promise rests on this.
 use Rattle.std.specs.Prelude.{Bool, true, false, List, [], ◌∷◌, ◌++◌, ℕ, zero, suc, ◌+◌, ◌/◌, ◌%◌, ltb}
 use Prim.Native.Char.{code}
-use Prim.Native.String as String
 use Prim.Native.String.{String}
 
 -- the bytes of a word

@@ -8,7 +8,6 @@ use borrow.Author.Rules.{rules}
 use lib.ListN.{length, get_or, take, drop}
 use lib.Ieee.{Float, nan}
 use Rattle.laws.proofs.Slices.{part_at, part_length}
-use Rattle.local.specs.Bounds.{state_places}
 use Rattle.local.specs.State.{stored, vacuum}
 use Rattle.state.specs.Bounds.{dim_of}
 use Rattle.state.specs.Operation.{decode_of}

@@ -1,6 +1,5 @@
 -- `leaves::code` meets its contract: the number is the sum of its parts.
 -- Assumes nothing.
-use borrow.Author.Rules.{rules}
 use Rattle.leaves.specs.Classes.{code_of}
 use Rattle.leaves.proofs.code.Goals as goal
 

@@ -3,7 +3,6 @@
 use borrow.Author.Tests.{lt-ltb, le-ltb}
 use Rattle.gate.specs.Lent.{row_at}
 use Rattle.leaves.specs.Slices.{first2_of}
-use borrow.Author.Rules.{rules}
 use Rattle.leaves.proofs.first2.Goals as goal
 
 pub returns-then-a-lt8 : goal.returns-then-a-lt8

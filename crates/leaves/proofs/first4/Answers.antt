@@ -3,7 +3,6 @@
 use borrow.Author.Tests.{lt-ltb, le-ltb}
 use Rattle.gate.specs.Lent.{row_at, mat4_at}
 use Rattle.leaves.specs.Slices.{first4_of}
-use borrow.Author.Rules.{rules}
 use Rattle.leaves.proofs.first4.Goals as goal
 
 pub returns-then-a-lt32 : goal.returns-then-a-lt32

@@ -1,6 +1,5 @@
 -- `leaves::flat4` meets its contract: it is the formula, with the rows of the map two by two.
 -- Assumes nothing.
-use borrow.Author.Rules.{rules}
 use Rattle.leaves.specs.Classes.{flat4_of}
 use Rattle.leaves.proofs.flat4.Goals as goal
 

@@ -1,7 +1,6 @@
 -- `leaves::leaf_classify2` meets its contract: number and matrix are those of the class.
 -- Assumes nothing.
 use mathlib.Core.Path.{◌∙◌, ap}
-use borrow.Author.Rules.{rules}
 use Rattle.classify.specs.Classify.{classify2_of}
 use Rattle.classify.specs.declared.classify.Class2.{Class2}
 use Rattle.leaves.specs.Slices.{put4_of}

@@ -1,6 +1,5 @@
 -- `leaves::leaf_dag4` meets its contract: each call does what its definition says.
 -- Assumes nothing.
-use borrow.Author.Rules.{rules}
 use Rattle.leaves.proofs.leaf_dag4.Goals as goal
 
 pub returns : goal.returns

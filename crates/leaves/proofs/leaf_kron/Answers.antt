@@ -1,6 +1,5 @@
 -- `leaves::leaf_kron` meets its contract: each call does what its definition says.
 -- Assumes nothing.
-use borrow.Author.Rules.{rules}
 use Rattle.leaves.proofs.leaf_kron.Goals as goal
 
 pub returns : goal.returns

@@ -1,6 +1,5 @@
 -- `leaves::leaf_swap_qubits` meets its contract: each call does what its definition says.
 -- Assumes nothing.
-use borrow.Author.Rules.{rules}
 use Rattle.leaves.proofs.leaf_swap_qubits.Goals as goal
 
 pub returns : goal.returns

@@ -2,7 +2,6 @@
 -- Assumes nothing.
 use borrow.Author.Tests.{lt-ltb, le-ltb}
 use Rattle.leaves.specs.Slices.{put2_of}
-use borrow.Author.Rules.{rules}
 use Rattle.leaves.proofs.put2.Goals as goal
 
 pub returns-then-out-lt8 : goal.returns-then-out-lt8

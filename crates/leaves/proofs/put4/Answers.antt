@@ -2,7 +2,6 @@
 -- Assumes nothing.
 use borrow.Author.Tests.{lt-ltb, le-ltb}
 use Rattle.leaves.specs.Slices.{put4_of}
-use borrow.Author.Rules.{rules}
 use Rattle.leaves.proofs.put4.Goals as goal
 
 pub returns-then-out-lt32 : goal.returns-then-out-lt32

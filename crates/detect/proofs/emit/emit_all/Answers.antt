@@ -1,8 +1,7 @@
 -- `detect::emit::emit_all` meets its contract: after i records the operations of their items are written. Assumes nothing.
 use mathlib.Core.Path.{◌≡◌, refl, sym, ap, ◌∙◌}
-use mathlib.Core.Logic.{⊎_elim}
 use mathlib.Core.List.{List, ◌++◌}
-use Prim.Native.Nat.{◌+◌, ◌-◌, ◌≤◌}
+use Prim.Native.Nat.{◌+◌, ◌≤◌}
 use native.Mathlib.Nat.{le_antisymm}
 use native.Mathlib.Omega.{arith}
 use lib.ListN.{length}
@@ -12,7 +11,7 @@ use Rattle.work.specs.Marks.{mark_at}
 use lib.Ieee.{Float}
 use Prim.Native.Nat.{ℕ, ◌<◌}
 use mathlib.Core.Bool.{true}
-use Rattle.detect.specs.Operation.{all_places, written, Put}
+use Rattle.detect.specs.Operation.{all_places, written}
 use Rattle.detect.specs.Emit.{item_operations, operations_in}
 use Rattle.detect.specs.Records.{record_item, items_in, modes_in}
 use Rattle.detect.proofs.Items.{items-same, items-none, items-few, below_at}

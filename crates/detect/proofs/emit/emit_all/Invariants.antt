@@ -1,17 +1,10 @@
 -- `detect::emit::emit_all` meets its contract: after i records the operations of their items are written. Assumes nothing.
-use mathlib.Core.Path.{◌≡◌, refl, sym, ap, ◌∙◌}
-use mathlib.Core.Logic.{⊎_elim}
-use mathlib.Core.List.{◌++◌}
-use Prim.Native.Nat.{◌+◌, ◌-◌, ◌≤◌}
-use native.Mathlib.Nat.{le_antisymm}
-use native.Mathlib.Omega.{arith}
+use mathlib.Core.Path.{◌≡◌}
+use Prim.Native.Nat.{◌-◌, ◌≤◌}
 use lib.ListN.{length}
-use Rattle.detect.specs.Operation.{all_places, written, Put}
-use Rattle.detect.specs.Emit.{item_operations}
-use Rattle.detect.specs.Records.{record_item, items_in, modes_in}
-use Rattle.detect.proofs.Items.{items-same, items-none, items-few, below_at}
-use Rattle.detect.proofs.Placing.{put-none, next-room}
-use Rattle.detect.proofs.Emitting.{emitted, emitted-none, emitted-more, emitted-same, emitted-fits, turn-put, turn-number, turn-length}
+use Rattle.detect.specs.Operation.{Put}
+use Rattle.detect.specs.Records.{items_in, modes_in}
+use Rattle.detect.proofs.Emitting.{emitted}
 use Rattle.detect.proofs.emit.emit_all.Given as goal
 
 abbrev pub invariant-loop-i : goal.invariant-loop-i

@@ -1,7 +1,6 @@
 -- `detect::questions::compile_checked` meets its contract: question 9, and the parts that it lends on made zero. Assumes nothing.
 use mathlib.Core.Path.{sym, ap, ◌∙◌}
 use native.Mathlib.Omega.{arith}
-use borrow.Author.Rules.{rules}
 use lib.ListN.{length}
 use Rattle.laws.specs.Slices.{filled}
 use Rattle.gate.specs.Complex.{f0}

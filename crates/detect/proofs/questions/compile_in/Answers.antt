@@ -1,7 +1,6 @@
 -- `detect::questions::compile_in` meets its contract: question 10 is asked once the operations are counted, and before they are written. Assumes nothing.
 use mathlib.Core.Path.{sym, ap, ◌∙◌}
 use native.Mathlib.Omega.{arith}
-use borrow.Author.Rules.{rules}
 use lib.ListN.{length}
 use lib.Ieee.{nan}
 use Rattle.gate.specs.Complex.{f0}

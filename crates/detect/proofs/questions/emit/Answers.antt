@@ -1,5 +1,4 @@
 -- `detect::questions::emit` meets its contract. Assumes nothing.
-use borrow.Author.Rules.{rules}
 use Rattle.detect.proofs.questions.emit.Goals as goal
 
 pub emit_all-requires : goal.emit_all-requires

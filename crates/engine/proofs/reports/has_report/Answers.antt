@@ -1,5 +1,4 @@
 -- `engine::reports::has_report` meets its contract: each test is the definition's. Assumes nothing.
-use borrow.Author.Rules.{rules}
 use borrow.Author.Tests.{lt-leb, le-leb}
 use Rattle.engine.specs.Reports.{has_report}
 use Rattle.engine.proofs.reports.has_report.Goals as goal

@@ -1,5 +1,4 @@
 -- `engine::reports::put_report` meets its contract: each slice has room, and holds what the definition says. Assumes nothing.
-use borrow.Author.Rules.{rules}
 use native.Mathlib.Omega.{arith}
 use lib.ListN.{length-set}
 use Rattle.engine.specs.Reports.{words_written, measures_written}

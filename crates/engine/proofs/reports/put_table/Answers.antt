@@ -1,10 +1,8 @@
 -- `engine::reports::put_table` meets its contract: after k turns k entries are laid. Assumes nothing.
-use mathlib.Core.Path.{◌≡◌, refl}
-use Prim.Native.Nat.{◌-◌, ◌≤◌}
+use mathlib.Core.Path.{refl}
 use native.Mathlib.Omega.{arith}
 use Rattle.laws.specs.Slices.{stores}
 use Rattle.laws.specs.Bounds.{max_qubits}
-use Rattle.engine.specs.Reports.{laid}
 use Rattle.engine.proofs.Laid.{laid-long, laid_more, laid-all}
 use Rattle.engine.proofs.reports.put_table.Goals as goal
 

@@ -1,5 +1,4 @@
 -- `engine::reports::put_tables` meets its contract: one table after the other. Assumes nothing.
-use borrow.Author.Rules.{rules}
 use Rattle.engine.specs.Reports.{tables_written}
 use Rattle.engine.proofs.reports.put_tables.Goals as goal
 

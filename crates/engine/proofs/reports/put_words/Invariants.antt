@@ -1,11 +1,8 @@
 -- `engine::reports::put_words` meets its contract: after k turns k entries are laid. Assumes nothing.
-use mathlib.Core.Path.{◌≡◌, refl}
+use mathlib.Core.Path.{◌≡◌}
 use Prim.Native.Nat.{◌-◌, ◌≤◌}
-use native.Mathlib.Omega.{arith}
-use Rattle.laws.specs.Slices.{stores}
 use Rattle.detect.specs.Words.{word_count}
 use Rattle.engine.specs.Reports.{laid}
-use Rattle.engine.proofs.Laid.{laid-long, laid_more, laid-all}
 use Rattle.engine.proofs.reports.put_words.Given as goal
 
 abbrev pub invariant-loop-k : goal.invariant-loop-k

@@ -1,5 +1,4 @@
 -- `engine::said::tell` meets its contract: place and value are those of the answer. Assumes nothing.
-use borrow.Author.Rules.{rules}
 use Rattle.engine.proofs.Room.{place-there, value_there, tells_all}
 use Rattle.engine.proofs.said.tell.Goals as goal
 

@@ -1,5 +1,4 @@
 -- `engine::states::jozkeral_apply` meets its contract: number and state are those of `apply`. Assumes nothing.
-use borrow.Author.Rules.{rules}
 use Rattle.engine.proofs.states.jozkeral_apply.Goals as goal
 
 pub returns : goal.returns

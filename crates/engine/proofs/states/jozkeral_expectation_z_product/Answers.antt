@@ -1,6 +1,5 @@
 -- `engine::states::jozkeral_expectation_z_product` meets its contract: the query's answer is told, where there is room. Assumes nothing.
 use mathlib.Core.Path.{sym, ◌∙◌}
-use borrow.Author.Rules.{rules}
 use Rattle.engine.proofs.Room.{tells_none}
 use Rattle.engine.proofs.states.jozkeral_expectation_z_product.Goals as goal
 

@@ -1,5 +1,4 @@
 -- `engine::states::jozkeral_probability` meets its contract: the query's answer is told, where there is room. Assumes nothing.
-use borrow.Author.Rules.{rules}
 use borrow.Author.Tests.{lt-leb, le-leb}
 use Rattle.engine.proofs.states.jozkeral_probability.Goals as goal
 

@@ -1,6 +1,5 @@
 -- `engine::tapes::jozkeral_compile` meets its contract: the answer and the report of `compile` are told, where there is room. Assumes nothing.
 use mathlib.Core.Path.{sym, ◌∙◌}
-use borrow.Author.Rules.{rules}
 use Rattle.engine.proofs.Room.{reports-none}
 use Rattle.engine.proofs.tapes.jozkeral_compile.Goals as goal
 

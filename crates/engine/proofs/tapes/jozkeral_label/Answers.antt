@@ -1,5 +1,4 @@
 -- `engine::tapes::jozkeral_label` meets its contract: offset and length are those of the label. Assumes nothing.
-use borrow.Author.Rules.{rules}
 use borrow.Author.Tests.{lt-leb, le-leb}
 use Rattle.engine.specs.Answers.{span_written}
 use Rattle.engine.proofs.tapes.jozkeral_label.Goals as goal

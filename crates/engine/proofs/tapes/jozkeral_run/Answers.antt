@@ -1,6 +1,5 @@
 -- `engine::tapes::jozkeral_run` meets its contract: the answer and the report of `run` are told, where there is room. Assumes nothing.
 use mathlib.Core.Path.{sym, ◌∙◌}
-use borrow.Author.Rules.{rules}
 use Rattle.order.proofs.Covers.{never}
 use Rattle.engine.proofs.Room.{reports-none}
 use Rattle.engine.proofs.Claims.{claim-told}

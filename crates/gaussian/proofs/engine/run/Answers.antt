@@ -1,6 +1,5 @@
 -- `gaussian::engine::run` meets its contract: the questions 1 to 8, then those of a tape that passes them. Assumes nothing.
 use mathlib.Core.Path.{sym, ap, ◌∙◌}
-use borrow.Author.Rules.{rules}
 use lib.ListN.{length}
 use Rattle.gate.specs.Complex.{f0}
 use Rattle.tape.specs.Parse.{parse}

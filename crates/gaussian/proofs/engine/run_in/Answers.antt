@@ -1,7 +1,5 @@
 -- `gaussian::engine::run_in` meets its contract: the questions are asked once the report is made, and before anything is written. Assumes nothing.
 use mathlib.Core.Path.{◌≡◌, refl, sym, ap, ◌∙◌}
-use native.Mathlib.Omega.{arith}
-use borrow.Author.Rules.{rules}
 use lib.ListN.{length}
 use lib.Ieee.{nan}
 use Rattle.gate.specs.Complex.{f0}

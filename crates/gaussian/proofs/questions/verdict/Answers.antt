@@ -1,7 +1,6 @@
 -- `gaussian::questions::verdict` meets its contract: question by question. Assumes nothing.
 use Prim.Native.Nat.{◌*◌}
 use native.Mathlib.Omega.{arith}
-use borrow.Author.Rules.{rules}
 use borrow.Author.Tests.{lt-ltb, le-ltb}
 use Rattle.laws.specs.Bounds.{op_places}
 use Rattle.gaussian.specs.Run.{verdict_of}

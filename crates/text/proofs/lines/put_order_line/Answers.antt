@@ -4,7 +4,6 @@ use Prim.Native.Nat.{ℕ, ◌+◌, ◌^◌, ◌<◌, ◌≤◌}
 use native.Mathlib.Omega.{arith}
 use lib.ListN.{length, length-append, get_or}
 use mathlib.Core.List.{List}
-use borrow.Author.Rules.{rules}
 use Rattle.text.specs.Bounds.{printed_qubits, max_order_line}
 use Rattle.text.specs.Ascii.{ascii}
 use Rattle.order.specs.declared.choice.Ordering.{Ordering}

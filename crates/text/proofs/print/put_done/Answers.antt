@@ -1,7 +1,6 @@
 -- `text::print::put_done` meets its contract: report line, order line and q lines have room, and together they are the text. Assumes nothing.
 use Prim.Native.Nat.{◌≤◌}
 use native.Mathlib.Omega.{arith}
-use borrow.Author.Rules.{rules}
 use lib.ListN.{length}
 use Rattle.text.specs.Lines.{report_line}
 use Rattle.text.specs.Print.{z_at, done_text}

@@ -1,5 +1,4 @@
 -- `text::print::put_order` meets its contract: the table has an entry for each mode. Assumes nothing.
-use native.Mathlib.Omega.{arith}
 use borrow.Author.Rules.{rules}
 use Rattle.text.proofs.print.put_order.Goals as goal
 
