@@ -7,7 +7,10 @@ ghost use Rattle.std.specs.Prelude.{◌+◌, ◌≤◌, length};
 
 use classify::{Class2, Kind2, Rotation};
 use gate::{Complex, Mat4, Row4};
+use reading::large_buffer;
 use real::{Map2, Map4, Real4};
+use std::io;
+use std::rt::Files;
 use stored::Tally;
 
 // Tags of records.
@@ -313,8 +316,7 @@ fn agrees(what: u64, s: &[u8]) -> Tally {
 fn count(s: &[u8], what: u64) -> Tally {
     let mut t = stored::nothing();
     let mut at = 0;
-    let mut k: usize = 0;
-    while k < stored::MAX_RECORDS {
+    for _ in 0..stored::MAX_RECORDS {
         let r = stored::record_at(s, at, words(stored::tag_at(s, at)));
         let from = r.from;
         let to = r.to;
@@ -325,31 +327,30 @@ fn count(s: &[u8], what: u64) -> Tally {
             t = stored::plus(t, agrees(what, &s[from..to]));
         }
         at = to;
-        k += 1;
     }
     t
 }
 
-fn replay(path: &[u8]) {
-    let mut space = io::large_buffer();
-    let n = stored::named_list(path, &mut space);
+fn replay(rt: &(impl Files + Print + Eprint), path: &str) -> io::Result<()> {
+    let mut space = large_buffer();
+    let n = stored::named_list(rt, path, &mut space)?;
     let s = &space[..n];
-    stored::print_tally(b"majorana_map1", count(s, MAP1));
-    stored::print_tally(b"commutes_j2", count(s, COMMUTES));
-    stored::print_tally(b"majorana_map2", count(s, MAP2));
-    stored::print_tally(b"number_conserving4", count(s, CONSERVES));
-    stored::print_tally(b"offdiag4", count(s, OFFDIAG));
-    stored::print_tally(b"classes of the original", count(s, ORIGINAL));
-    stored::print_tally(b"classes of the rule", count(s, RULE));
-    stored::print_tally(b"residuals", count(s, RESIDUAL));
-    stored::print_tally(b"matrices to apply", count(s, APPLIED));
-    stored::print_tally(b"phases", count(s, PHASE));
-    stored::print_tally(b"units", count(s, UNIT));
-    stored::print_tally(b"rotations", count(s, ROTATION));
+    stored::print_tally(rt, "majorana_map1", count(s, MAP1))?;
+    stored::print_tally(rt, "commutes_j2", count(s, COMMUTES))?;
+    stored::print_tally(rt, "majorana_map2", count(s, MAP2))?;
+    stored::print_tally(rt, "number_conserving4", count(s, CONSERVES))?;
+    stored::print_tally(rt, "offdiag4", count(s, OFFDIAG))?;
+    stored::print_tally(rt, "classes of the original", count(s, ORIGINAL))?;
+    stored::print_tally(rt, "classes of the rule", count(s, RULE))?;
+    stored::print_tally(rt, "residuals", count(s, RESIDUAL))?;
+    stored::print_tally(rt, "matrices to apply", count(s, APPLIED))?;
+    stored::print_tally(rt, "phases", count(s, PHASE))?;
+    stored::print_tally(rt, "units", count(s, UNIT))?;
+    stored::print_tally(rt, "rotations", count(s, ROTATION))
 }
 
-fn main() {
-    replay(b"gates.bin");
-    replay(b"given.bin");
-    replay(b"phases.bin");
+fn main(rt: HostRuntime) -> io::Result<()> {
+    replay(&rt, "gates.bin")?;
+    replay(&rt, "given.bin")?;
+    replay(&rt, "phases.bin")
 }

@@ -8,6 +8,9 @@ ghost use Rattle.laws.specs.Bounds.{max_qubits};
 
 use detect::{Answer, REPORT_MEASURES, REPORT_WORDS, Report};
 use laws::MAX_QUBITS;
+use reading::large_buffer;
+use std::io;
+use std::rt::Files;
 use stored::Tally;
 
 // Comparisons.
@@ -60,12 +63,10 @@ fn entry(s: &[u8], first: usize, i: usize, n: usize) -> u64 {
 }
 
 fn table_agrees(v: &[u16], s: &[u8], first: usize, n: usize) -> bool {
-    let mut i = 0;
-    while i < v.len() {
-        if num::wide_word(v[i]) != entry(s, first, i, n) {
+    for (i, x) in v.iter().enumerate() {
+        if num::wide_word(*x) != entry(s, first, i, n) {
             return false;
         }
-        i += 1;
     }
     true
 }
@@ -87,11 +88,9 @@ fn tables_agree(r: Report, s: &[u8], n: usize) -> bool
 // Every place is compared by itself.
 fn places_agree(ops: &[f64], s: &[u8], first: usize) -> Tally {
     let mut t = stored::nothing();
-    let mut i = 0;
-    while i < ops.len() {
-        let x = num::to_bits(ops[i]);
-        t = stored::plus(t, stored::tally_of(x == stored::word_from(s, first, i)));
-        i += 1;
+    for (i, x) in ops.iter().enumerate() {
+        let same = num::to_bits(*x) == stored::word_from(s, first, i);
+        t = stored::plus(t, stored::tally_of(same));
     }
     t
 }
@@ -188,8 +187,7 @@ fn agrees(what: u64, s: &[u8]) -> Tally {
 fn count(s: &[u8], what: u64) -> Tally {
     let mut t = stored::nothing();
     let mut at = 0;
-    let mut k: usize = 0;
-    while k < stored::MAX_RECORDS {
+    for _ in 0..stored::MAX_RECORDS {
         let r = stored::sized_at(s, at, 1);
         let from = r.from;
         let to = r.to;
@@ -198,25 +196,24 @@ fn count(s: &[u8], what: u64) -> Tally {
         }
         t = stored::plus(t, agrees(what, &s[from..to]));
         at = to;
-        k += 1;
     }
     t
 }
 
-fn replay(path: &[u8]) {
-    let mut space = io::large_buffer();
-    let n = stored::named_list(path, &mut space);
+fn replay(rt: &(impl Files + Print + Eprint), path: &str) -> io::Result<()> {
+    let mut space = large_buffer();
+    let n = stored::named_list(rt, path, &mut space)?;
     let s = &space[..n];
-    stored::print_tally(b"numbers and places", count(s, ANSWERS));
-    stored::print_tally(b"reports", count(s, REPORTS));
-    stored::print_tally(b"tables", count(s, TABLES));
-    stored::print_tally(b"operation places", count(s, OPERATIONS));
-    stored::print_tally(b"work afterwards", count(s, WORK));
+    stored::print_tally(rt, "numbers and places", count(s, ANSWERS))?;
+    stored::print_tally(rt, "reports", count(s, REPORTS))?;
+    stored::print_tally(rt, "tables", count(s, TABLES))?;
+    stored::print_tally(rt, "operation places", count(s, OPERATIONS))?;
+    stored::print_tally(rt, "work afterwards", count(s, WORK))
 }
 
-fn main() {
-    replay(b"edges.bin");
-    replay(b"graphs.bin");
-    replay(b"exact.bin");
-    replay(b"angled.bin");
+fn main(rt: HostRuntime) -> io::Result<()> {
+    replay(&rt, "edges.bin")?;
+    replay(&rt, "graphs.bin")?;
+    replay(&rt, "exact.bin")?;
+    replay(&rt, "angled.bin")
 }

@@ -10,6 +10,9 @@ ghost use Rattle.work.specs.Marks.{Records};
 ghost use Rattle.fuse.specs.Layout.{Space};
 ghost use Rattle.fuse.specs.Slotted.{Gates};
 
+use reading::large_buffer;
+use std::io;
+use std::rt::Files;
 use stored::Tally;
 use tape::Checked;
 
@@ -100,8 +103,7 @@ fn items_agree(what: u64, exact: bool, w: &[f64], u: &[u32], m: usize, s: &[u8])
 {
     let mut t = stored::nothing();
     let mut at: usize = 0;
-    let mut k: usize = 0;
-    while k < m {
+    for k in 0..m {
         let kind = work::mark(u, k, work::KIND);
         let size = size_of(kind, exact);
         if s.len() - at < size {
@@ -111,7 +113,6 @@ fn items_agree(what: u64, exact: bool, w: &[f64], u: &[u32], m: usize, s: &[u8])
             t = stored::plus(t, item_agrees(what, w, u, k, kind, &s[at..at + size]));
         }
         at += size;
-        k += 1;
     }
     if at == s.len() {
         t
@@ -134,15 +135,13 @@ fn counts_agree(t: resolve::Tally, s: &[u8]) -> bool {
 fn slots_agree(u: &[u32], n: usize, s: &[u8]) -> bool
     requires { Records u.now n × (n ≤ 128) }
 {
-    let mut q = 0;
-    while q < n {
+    for q in 0..n {
         if work::mark(u, q, work::LAB) as u64 != stored::word(s, 3 + q) {
             return false;
         }
         if work::mark(u, q, work::CONTENT) as u64 != stored::word(s, 3 + n + q) {
             return false;
         }
-        q += 1;
     }
     true
 }
@@ -239,8 +238,7 @@ fn agrees(what: u64, exact: bool, s: &[u8]) -> Tally {
 fn count(s: &[u8], what: u64) -> Tally {
     let mut t = stored::nothing();
     let mut at = 0;
-    let mut k: usize = 0;
-    while k < stored::MAX_RECORDS {
+    for _ in 0..stored::MAX_RECORDS {
         let r = stored::sized_at(s, at, 1);
         let from = r.from;
         let to = r.to;
@@ -249,25 +247,24 @@ fn count(s: &[u8], what: u64) -> Tally {
         }
         t = stored::plus(t, agrees(what, r.tag == EXACT, &s[from..to]));
         at = to;
-        k += 1;
     }
     t
 }
 
-fn replay(path: &[u8]) {
-    let mut space = io::large_buffer();
-    let n = stored::named_list(path, &mut space);
+fn replay(rt: &(impl Files + Print + Eprint), path: &str) -> io::Result<()> {
+    let mut space = large_buffer();
+    let n = stored::named_list(rt, path, &mut space)?;
     let s = &space[..n];
-    stored::print_tally(b"counts of swaps and cuts", count(s, COUNTS));
-    stored::print_tally(b"slots and wires", count(s, SLOTS));
-    stored::print_tally(b"kinds of items", count(s, KINDS));
-    stored::print_tally(b"residuals", count(s, RESIDUALS));
-    stored::print_tally(b"matrices", count(s, MATRICES));
+    stored::print_tally(rt, "counts of swaps and cuts", count(s, COUNTS))?;
+    stored::print_tally(rt, "slots and wires", count(s, SLOTS))?;
+    stored::print_tally(rt, "kinds of items", count(s, KINDS))?;
+    stored::print_tally(rt, "residuals", count(s, RESIDUALS))?;
+    stored::print_tally(rt, "matrices", count(s, MATRICES))
 }
 
-fn main() {
-    replay(b"cuts.bin");
-    replay(b"mixed.bin");
-    replay(b"angled.bin");
-    replay(b"ties.bin");
+fn main(rt: HostRuntime) -> io::Result<()> {
+    replay(&rt, "cuts.bin")?;
+    replay(&rt, "mixed.bin")?;
+    replay(&rt, "angled.bin")?;
+    replay(&rt, "ties.bin")
 }

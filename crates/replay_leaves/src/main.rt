@@ -5,7 +5,9 @@
 
 ghost use Rattle.std.specs.Prelude.{◌≤◌};
 
-use libc::STDOUT_FILENO;
+use reading::large_buffer;
+use std::io;
+use std::rt::Files;
 use stored::Tally;
 
 // Tags of records.
@@ -169,8 +171,7 @@ struct Walked {
 fn walk(s: &[u8], wanted: u64) -> Walked {
     let mut tally = stored::nothing();
     let mut at = 0;
-    let mut k: usize = 0;
-    while k < stored::MAX_RECORDS {
+    for _ in 0..stored::MAX_RECORDS {
         let r = stored::record_at(s, at, words(stored::tag_at(s, at)));
         let from = r.from;
         let to = r.to;
@@ -181,7 +182,6 @@ fn walk(s: &[u8], wanted: u64) -> Walked {
             tally = stored::plus(tally, stored::tally_of(agrees(wanted, &s[from..to])));
         }
         at = to;
-        k += 1;
     }
     Walked { tally, at }
 }
@@ -196,42 +196,43 @@ fn is_whole(s: &[u8]) -> bool {
 }
 
 // A line for a tag that the list has.
-fn print_line(s: &[u8], tag: u64, name: &[u8]) {
+fn print_line(rt: &impl Print, s: &[u8], tag: u64, name: &str) -> io::Result<()> {
     let w = walk(s, tag);
-    stored::print_tally(name, w.tally);
+    stored::print_tally(rt, name, w.tally)
 }
 
-fn print_numbers(s: &[u8]) {
-    print_line(s, SQRT, b"sqrt");
-    print_line(s, ABS, b"abs");
-    print_line(s, MAX, b"max");
-    print_line(s, MIN, b"min");
-    print_line(s, CLAMP, b"clamp");
+fn print_numbers(rt: &impl Print, s: &[u8]) -> io::Result<()> {
+    print_line(rt, s, SQRT, "sqrt")?;
+    print_line(rt, s, ABS, "abs")?;
+    print_line(rt, s, MAX, "max")?;
+    print_line(rt, s, MIN, "min")?;
+    print_line(rt, s, CLAMP, "clamp")
 }
 
-fn print_matrices(s: &[u8]) {
-    print_line(s, TABLE_1Q, b"matrix_1q");
-    print_line(s, TABLE_2Q, b"matrix_2q");
-    print_line(s, MUL2, b"mul2");
-    print_line(s, DAG2, b"dag2");
-    print_line(s, KRON, b"kron");
-    print_line(s, MUL4, b"mul4");
-    print_line(s, DAG4, b"dag4");
-    print_line(s, SWAP_QUBITS, b"mat4_swap_qubits");
+fn print_matrices(rt: &impl Print, s: &[u8]) -> io::Result<()> {
+    print_line(rt, s, TABLE_1Q, "matrix_1q")?;
+    print_line(rt, s, TABLE_2Q, "matrix_2q")?;
+    print_line(rt, s, MUL2, "mul2")?;
+    print_line(rt, s, DAG2, "dag2")?;
+    print_line(rt, s, KRON, "kron")?;
+    print_line(rt, s, MUL4, "mul4")?;
+    print_line(rt, s, DAG4, "dag4")?;
+    print_line(rt, s, SWAP_QUBITS, "mat4_swap_qubits")
 }
 
-fn replay(path: &[u8]) {
-    let mut space = io::large_buffer();
-    let n = stored::read_list(path, &mut space);
+fn replay(rt: &(impl Files + Print + Eprint), path: &str) -> io::Result<()> {
+    let mut space = large_buffer();
+    let n = stored::read_list(rt, path, &mut space)?;
     let s = &space[..n];
-    print_numbers(s);
-    print_matrices(s);
+    print_numbers(rt, s)?;
+    print_matrices(rt, s)?;
     if is_whole(s) {
-        io::write_all(STDOUT_FILENO, b"end\n");
+        println!(rt; "end")?;
     }
+    Ok(())
 }
 
-fn main() {
-    replay(b"leaves.bin");
-    replay(b"products.bin");
+fn main(rt: HostRuntime) -> io::Result<()> {
+    replay(&rt, "leaves.bin")?;
+    replay(&rt, "products.bin")
 }

@@ -3,24 +3,23 @@
 
 #![tactic(auto)]
 
-use libc::STDOUT_FILENO;
 use printing::print_from;
+use std::rt::Files;
+use std::{fs, io};
 
-fn replay(path: &[u8]) {
-    let fd = os::open_read(path);
-    if fd < 0 {
-        os::fail(path);
-        return;
+fn replay(rt: &(impl Files + Print + Eprint), path: &str) -> io::Result<()> {
+    match fs::open(rt, path) {
+        Ok(mut tape) => {
+            println!(rt; "{path}")?;
+            print_from(&mut tape, &mut io::writer(rt))
+        }
+        Err(reason) => eprintln!(rt; "{path}: {reason}"),
     }
-    io::write_all(STDOUT_FILENO, path);
-    io::write_all(STDOUT_FILENO, b"\n");
-    print_from(fd);
-    libc::close(fd);
 }
 
-fn main() {
-    replay(b"cut.bin");
-    replay(b"long.bin");
-    replay(b"most.bin");
-    replay(b"over.bin");
+fn main(rt: HostRuntime) -> io::Result<()> {
+    replay(&rt, "cut.bin")?;
+    replay(&rt, "long.bin")?;
+    replay(&rt, "most.bin")?;
+    replay(&rt, "over.bin")
 }

@@ -5,13 +5,15 @@
 
 mod tapes; // tapes.rt: a tape run in lent slices
 
+use reading::large_buffer;
+use std::io;
+use std::rt::Files;
 use stored_queries::counts;
 use stored_queries::counts::Counts;
 
 fn count(s: &[u8], counts: &mut Counts) {
     let mut at = 0;
-    let mut k: usize = 0;
-    while k < stored::MAX_RECORDS {
+    for k in 0..stored::MAX_RECORDS {
         let r = stored::sized_at(s, at, 1);
         let from = r.from;
         let to = r.to;
@@ -20,21 +22,20 @@ fn count(s: &[u8], counts: &mut Counts) {
         }
         tapes::compare(&s[from..to], k as u64, counts);
         at = to;
-        k += 1;
     }
 }
 
-fn replay(path: &[u8]) {
-    let mut space = io::large_buffer();
-    let n = stored::named_list(path, &mut space);
+fn replay(rt: &(impl Files + Print + Eprint), path: &str) -> io::Result<()> {
+    let mut space = large_buffer();
+    let n = stored::named_list(rt, path, &mut space)?;
     let mut counts: Counts = [0; counts::ENTRIES];
     count(&space[..n], &mut counts);
-    counts::print(&counts);
+    counts::print(rt, &counts)
 }
 
-fn main() {
-    replay(b"edges.bin");
-    replay(b"register.bin");
-    replay(b"signs.bin");
-    replay(b"mixed.bin");
+fn main(rt: HostRuntime) -> io::Result<()> {
+    replay(&rt, "edges.bin")?;
+    replay(&rt, "register.bin")?;
+    replay(&rt, "signs.bin")?;
+    replay(&rt, "mixed.bin")
 }

@@ -42,7 +42,7 @@ pub fn zz_agrees(n: usize, v: &[f64], modes: &[u16], s: &[u8]) -> bool {
 
 // The eight qubits of a list, from word `first` on.
 fn qubit(s: &[u8], first: usize, i: usize) -> usize {
-    stored::word(s, std::num::wrapping_add_usize(first, i)) as usize
+    stored::word(s, first.wrapping_add(i)) as usize
 }
 
 fn qubits(s: &[u8], i: usize) -> [usize; 8] {

@@ -3,6 +3,9 @@
 
 #![tactic(auto)]
 
+use reading::large_buffer;
+use std::io;
+use std::rt::Files;
 use stored::Tally;
 
 mod tags; // tags.rt: the tags of records
@@ -31,8 +34,7 @@ fn count(s: &[u8], what: u64, space: &mut [f64], table: &mut [u16]) -> Tally {
     let mut t = stored::nothing();
     let mut sizes = calls::no_state();
     let mut at = 0;
-    let mut k: usize = 0;
-    while k < RECORDS {
+    for _ in 0..RECORDS {
         let r = stored::sized_at(s, at, 0);
         let from = r.from;
         let to = r.to;
@@ -42,36 +44,35 @@ fn count(s: &[u8], what: u64, space: &mut [f64], table: &mut [u16]) -> Tally {
         sizes = step(r.tag, sizes, space, table, &s[from..to]);
         t = stored::plus(t, counted(r.tag == what, sizes.good));
         at = to;
-        k += 1;
     }
     t
 }
 
-fn print_count(s: &[u8], what: u64, name: &[u8]) {
+fn print_count(rt: &impl Print, s: &[u8], what: u64, name: &str) -> io::Result<()> {
     let mut space = [0.0; PLACES];
     let mut table = [0u16; QUBITS];
     let t = count(s, what, &mut space, &mut table);
-    stored::print_tally(name, t);
+    stored::print_tally(rt, name, t)
 }
 
-fn replay(path: &[u8]) {
-    let mut space = io::large_buffer();
-    let n = stored::named_list(path, &mut space);
+fn replay(rt: &(impl Files + Print + Eprint), path: &str) -> io::Result<()> {
+    let mut space = large_buffer();
+    let n = stored::named_list(rt, path, &mut space)?;
     let s = &space[..n];
-    print_count(s, APPLY, b"apply");
-    print_count(s, HOLDS, b"states");
-    print_count(s, Z, b"expectation_z");
-    print_count(s, ZZ, b"z_correlation");
-    print_count(s, PRODUCT, b"expectation_z_product");
-    print_count(s, MARGINAL, b"marginal_probability");
-    print_count(s, PROBABILITY, b"probability");
-    print_count(s, SAMPLE, b"sample");
+    print_count(rt, s, APPLY, "apply")?;
+    print_count(rt, s, HOLDS, "states")?;
+    print_count(rt, s, Z, "expectation_z")?;
+    print_count(rt, s, ZZ, "z_correlation")?;
+    print_count(rt, s, PRODUCT, "expectation_z_product")?;
+    print_count(rt, s, MARGINAL, "marginal_probability")?;
+    print_count(rt, s, PROBABILITY, "probability")?;
+    print_count(rt, s, SAMPLE, "sample")
 }
 
-fn main() {
-    replay(b"signs.bin");
-    replay(b"applies.bin");
-    replay(b"queries.bin");
-    replay(b"edges.bin");
-    replay(b"samples.bin");
+fn main(rt: HostRuntime) -> io::Result<()> {
+    replay(&rt, "signs.bin")?;
+    replay(&rt, "applies.bin")?;
+    replay(&rt, "queries.bin")?;
+    replay(&rt, "edges.bin")?;
+    replay(&rt, "samples.bin")
 }

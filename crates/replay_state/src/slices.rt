@@ -7,17 +7,13 @@ fn mode_from(s: &[u8], first: usize, i: usize) -> u16 {
 
 // Fills a slice from word `first` on.
 pub fn load(v: &mut [f64], s: &[u8], first: usize) {
-    let mut i = 0;
-    while i < v.len() {
-        v[i] = num::from_bits(word_from(s, first, i));
-        i += 1;
+    for (i, x) in v.iter_mut().enumerate() {
+        *x = num::from_bits(word_from(s, first, i));
     }
 }
 
 pub fn load_modes(v: &mut [u16], s: &[u8], first: usize) {
-    let mut i = 0;
-    while i < v.len() {
-        v[i] = mode_from(s, first, i);
-        i += 1;
+    for (i, x) in v.iter_mut().enumerate() {
+        *x = mode_from(s, first, i);
     }
 }

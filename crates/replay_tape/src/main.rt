@@ -9,7 +9,9 @@ ghost use Rattle.tape.specs.Bounds.{header_length};
 ghost use Rattle.tape.specs.Parse.{gates_of};
 ghost use Rattle.tape.specs.Cursor.{Cursor};
 
-use libc::STDOUT_FILENO;
+use reading::large_buffer;
+use std::io;
+use std::rt::Files;
 use tape::{Checked, Gate, HEADER_LENGTH};
 
 // Tags of records.
@@ -67,7 +69,7 @@ fn label_agrees(t: &[u8], s: &[u8]) -> bool {
     if t.len() < end {
         return false;
     }
-    check::same(tape::label(t, word(s, 12)), &t[start..end])
+    tape::label(t, word(s, 12)) == &t[start..end]
 }
 
 fn three_are(a: usize, b: usize, c: usize, s: &[u8], at: usize) -> bool
@@ -95,22 +97,19 @@ fn walk_agrees(t: &[u8], gates: usize, s: &[u8]) -> bool
     requires cursor { Cursor t.now 0 header_length }
     requires gates_value { gates ≡ length (gates_of t.now) }
 {
-    let mut k: usize = 0;
     let mut at = HEADER_LENGTH;
     let mut from: usize = 0;
-    while k < gates {
+    for k in 0..gates {
         if s.len() - from < GATE_SIZE {
             return false;
         }
         let p = tape::next_gate(t, k, at);
         let g = tape::gate_at(t, p.at);
-        if gate_agrees(g, p.at, s, from) {
-            at = p.next;
-            from += GATE_SIZE;
-            k += 1;
-        } else {
+        if !gate_agrees(g, p.at, s, from) {
             return false;
         }
+        at = p.next;
+        from += GATE_SIZE;
     }
     from == s.len()
 }
@@ -227,30 +226,32 @@ fn count(s: &[u8], wanted: usize, of_label: bool) -> Tally {
     Tally { right, all, whole }
 }
 
-fn print_line(s: &[u8], file: &[u8], tag: usize, of_label: bool, name: &[u8]) {
+fn print_line(
+    rt: &impl Print,
+    s: &[u8],
+    file: &str,
+    tag: usize,
+    of_label: bool,
+    name: &str,
+) -> io::Result<()> {
     let t = count(s, tag, of_label);
-    io::write_all(STDOUT_FILENO, file);
-    io::write_all(STDOUT_FILENO, name);
-    io::print_decimal(STDOUT_FILENO, t.right);
-    io::write_all(STDOUT_FILENO, b" of ");
-    io::print_decimal(STDOUT_FILENO, t.all);
-    io::write_all(STDOUT_FILENO, b"\n");
+    println!(rt; "{file} {name} {} of {}", t.right, t.all)
 }
 
-fn replay(path: &[u8]) {
-    let mut space = io::large_buffer();
-    let n = stored::read_list(path, &mut space);
+fn replay(rt: &(impl Files + Print + Eprint), path: &str) -> io::Result<()> {
+    let mut space = large_buffer();
+    let n = stored::read_list(rt, path, &mut space)?;
     let s = &space[..n];
-    print_line(s, path, CHECK, false, b" check_tape ");
-    print_line(s, path, CHECK, true, b" label ");
-    print_line(s, path, GATES, false, b" gates ");
+    print_line(rt, s, path, CHECK, false, "check_tape")?;
+    print_line(rt, s, path, CHECK, true, "label")?;
+    print_line(rt, s, path, GATES, false, "gates")?;
     if count(s, 0, false).whole {
-        io::write_all(STDOUT_FILENO, path);
-        io::write_all(STDOUT_FILENO, b" end\n");
+        println!(rt; "{path} end")?;
     }
+    Ok(())
 }
 
-fn main() {
-    replay(b"tapes.bin");
-    replay(b"many.bin");
+fn main(rt: HostRuntime) -> io::Result<()> {
+    replay(&rt, "tapes.bin")?;
+    replay(&rt, "many.bin")
 }

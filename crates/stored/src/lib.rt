@@ -11,13 +11,14 @@ mod slices; // slices.rt: slices beside the words of a record
 ghost use Rattle.std.specs.Prelude.{◌+◌, ◌≤◌, length};
 
 use gate::{Complex, Mat2, Mat4, Row4};
-use libc::STDOUT_FILENO;
 pub use lists::{
     MAX_RECORDS, Record, TapePart, named_list, read_list, record_at, sized_at, tag_at, tape_part,
     word,
 };
 pub use rooms::{FLOATS, MARKS, PLACES, STATE, WORK};
 pub use slices::{holds, marked, word_from, words_hold, worked};
+use std::io;
+use std::io::AsBytes;
 
 // Whether the word at a place is that of x.
 pub fn is(x: f64, s: &[u8], at: usize) -> bool
@@ -89,20 +90,16 @@ pub fn nothing() -> Tally {
 
 pub fn plus(a: Tally, b: Tally) -> Tally {
     Tally {
-        right: std::num::wrapping_add_u64(a.right, b.right),
-        all: std::num::wrapping_add_u64(a.all, b.all),
+        right: a.right.wrapping_add(b.right),
+        all: a.all.wrapping_add(b.all),
     }
 }
 
 // A line for what the list has.
-pub fn print_tally(name: &[u8], t: Tally) {
+pub fn print_tally(rt: &impl Print, name: impl AsBytes + Drop, t: Tally) -> io::Result<()> {
     if t.all == 0 {
-        return;
+        return Ok(());
     }
-    io::write_all(STDOUT_FILENO, name);
-    io::write_all(STDOUT_FILENO, b" ");
-    io::print_decimal(STDOUT_FILENO, t.right);
-    io::write_all(STDOUT_FILENO, b" of ");
-    io::print_decimal(STDOUT_FILENO, t.all);
-    io::write_all(STDOUT_FILENO, b"\n");
+    rt.write_all(name.as_byte_slice())?;
+    println!(rt; " {} of {}", t.right, t.all)
 }

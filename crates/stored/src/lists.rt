@@ -1,8 +1,10 @@
 // A list: how it is read, its records, and the tape that opens a record.
 ghost use Rattle.std.specs.Prelude.{◌≡◌, ◌≤◌, length};
-ghost use Rattle.io.specs.Counts.{IsPrefixLen};
+ghost use Rattle.std.specs.Io.{ReadsAtMost};
 
-use libc::STDOUT_FILENO;
+use reading::read_full;
+use std::rt::Files;
+use std::{fs, io};
 
 // A list of tapes or blocks has fewer records.
 pub const MAX_RECORDS: usize = 1024;
@@ -13,36 +15,38 @@ const MAX_TAPE: usize = 60000;
 // A record has fewer words after the one that counts them.
 const MANY: usize = 65000;
 
-// Words of the largest list: `io::large_buffer` has eight times as many bytes.
+// Words of the largest list: `reading::large_buffer` has eight times as many bytes.
 const LIST_WORDS: usize = 8192;
 
 // Bytes before the tape of a record.
 const HEAD: usize = 16;
 
 // Reads a whole list: how many bytes it has. Where it cannot be opened the reason goes to standard error, and there are none.
-pub fn read_list(path: &[u8], space: &mut [u8]) -> usize
-    ensures { IsPrefixLen result space.new }
+pub fn read_list(rt: &(impl Files + Eprint), path: &str, space: &mut [u8]) -> io::Result<usize>
+    ensures { ReadsAtMost result space.new }
 {
-    let fd = os::open_read(path);
-    if fd < 0 {
-        os::fail(path);
-        return 0;
+    match fs::open(rt, path) {
+        Ok(mut list) => read_full(&mut list, space),
+        Err(reason) => {
+            eprintln!(rt; "{path}: {reason}")?;
+            Ok(0)
+        }
     }
-    let n = io::read_full(fd, space);
-    libc::close(fd);
-    n
 }
 
 // The same, and the list's name is printed.
-pub fn named_list(path: &[u8], space: &mut [u8]) -> usize
-    ensures { IsPrefixLen result space.new }
+pub fn named_list(
+    rt: &(impl Files + Print + Eprint),
+    path: &str,
+    space: &mut [u8],
+) -> io::Result<usize>
+    ensures { ReadsAtMost result space.new }
 {
-    let n = read_list(path, space);
+    let n = read_list(rt, path, space)?;
     if 0 < n {
-        io::write_all(STDOUT_FILENO, path);
-        io::write_all(STDOUT_FILENO, b"\n");
+        println!(rt; "{path}")?;
     }
-    n
+    Ok(n)
 }
 
 // Word i of a record; 0 beyond its end.
@@ -110,7 +114,7 @@ fn size_at(s: &[u8], at: usize, before: usize) -> usize
     requires { before ≤ 8 }
     ensures { result ≤ 65536 }
 {
-    let last = tag_at(s, std::num::wrapping_add_usize(at, 8 + 8 * before)) as usize;
+    let last = tag_at(s, at.wrapping_add(8 + 8 * before)) as usize;
     if last < MANY { last + before + 1 } else { 0 }
 }
 

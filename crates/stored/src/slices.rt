@@ -2,28 +2,24 @@
 
 // Word i after word `first`.
 pub fn word_from(s: &[u8], first: usize, i: usize) -> u64 {
-    super::word(s, std::num::wrapping_add_usize(first, i))
+    super::word(s, first.wrapping_add(i))
 }
 
 // Whether a slice is what stands from word `first` on.
 pub fn holds(v: &[f64], s: &[u8], first: usize) -> bool {
-    let mut i = 0;
-    while i < v.len() {
-        if num::to_bits(v[i]) != word_from(s, first, i) {
+    for (i, x) in v.iter().enumerate() {
+        if num::to_bits(*x) != word_from(s, first, i) {
             return false;
         }
-        i += 1;
     }
     true
 }
 
 pub fn words_hold(v: &[u64], s: &[u8], first: usize) -> bool {
-    let mut i = 0;
-    while i < v.len() {
-        if v[i] != word_from(s, first, i) {
+    for (i, x) in v.iter().enumerate() {
+        if *x != word_from(s, first, i) {
             return false;
         }
-        i += 1;
     }
     true
 }
@@ -39,23 +35,19 @@ fn mark_at(i: usize, zeros: usize) -> u32 {
 
 // Whether work's first `zeros` places are 0.0, and the others 7.0 as before the call.
 pub fn worked(v: &[f64], zeros: usize) -> bool {
-    let mut i = 0;
-    while i < v.len() {
-        if num::to_bits(v[i]) != num::to_bits(work_at(i, zeros)) {
+    for (i, x) in v.iter().enumerate() {
+        if num::to_bits(*x) != num::to_bits(work_at(i, zeros)) {
             return false;
         }
-        i += 1;
     }
     true
 }
 
 pub fn marked(v: &[u32], zeros: usize) -> bool {
-    let mut i = 0;
-    while i < v.len() {
-        if v[i] != mark_at(i, zeros) {
+    for (i, x) in v.iter().enumerate() {
+        if *x != mark_at(i, zeros) {
             return false;
         }
-        i += 1;
     }
     true
 }

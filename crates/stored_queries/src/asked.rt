@@ -231,8 +231,7 @@ pub fn compare(
     counts: &mut Counts,
 ) {
     let mut i = first;
-    let mut k: usize = 0;
-    while k < QUERIES {
+    for k in 0..QUERIES {
         let kind = size_from(words, i, 0);
         if kind == 0 {
             return;
@@ -241,6 +240,5 @@ pub fn compare(
         let good = answered(kind, n, v, modes, words, from);
         note(kind, tape, same_or(good, k), counts);
         i = plus(from, size_from(words, i, 1));
-        k += 1;
     }
 }

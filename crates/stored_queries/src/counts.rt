@@ -1,5 +1,5 @@
 // How many comparisons there are of each kind, how many agree, and which is the first that does not.
-use libc::STDOUT_FILENO;
+use std::io;
 
 // Kinds of comparisons; those of queries have the tag of the query's record.
 pub const ANSWERS: usize = 0;
@@ -46,9 +46,7 @@ pub enum Compared {
 pub fn after(words: usize, c: Compared) -> Compared {
     match c {
         Compared::Same => Compared::Same,
-        Compared::Differs(place) => {
-            Compared::Differs(std::num::wrapping_add_usize(words, place))
-        }
+        Compared::Differs(place) => { Compared::Differs(words.wrapping_add(place)) }
     }
 }
 
@@ -67,10 +65,10 @@ pub fn note(kind: usize, tape: u64, c: Compared, counts: &mut Counts) {
     let at = NUMBERS * kind;
     let right = counts[at];
     let all = counts[at + 1];
-    counts[at + 1] = std::num::wrapping_add_u64(all, 1);
+    counts[at + 1] = all.wrapping_add(1);
     match c {
         Compared::Same => {
-            counts[at] = std::num::wrapping_add_u64(right, 1);
+            counts[at] = right.wrapping_add(1);
         }
         Compared::Differs(place) => {
             if right == all {
@@ -87,34 +85,33 @@ pub fn unreadable(tape: u64, counts: &mut Counts) {
 }
 
 // A line for a kind that the list has.
-fn print_kind(name: &[u8], kind: usize, counts: &Counts) {
+fn print_kind(rt: &impl Print, name: &str, kind: usize, counts: &Counts) -> io::Result<()> {
     if KINDS <= kind {
-        return;
+        return Ok(());
     }
     let at = NUMBERS * kind;
     let right = counts[at];
     let all = counts[at + 1];
-    stored::print_tally(name, stored::Tally { right, all });
+    stored::print_tally(rt, name, stored::Tally { right, all })?;
     if right != all {
-        io::write_all(STDOUT_FILENO, b"  first at tape ");
-        io::print_decimal(STDOUT_FILENO, counts[at + 2]);
-        io::write_all(STDOUT_FILENO, b" place ");
-        io::print_decimal(STDOUT_FILENO, counts[at + 3]);
-        io::write_all(STDOUT_FILENO, b"\n");
+        let tape = counts[at + 2];
+        let place = counts[at + 3];
+        println!(rt; "  first at tape {tape} place {place}")?;
     }
+    Ok(())
 }
 
-pub fn print(counts: &Counts) {
-    print_kind(b"numbers and places", ANSWERS, counts);
-    print_kind(b"reports", REPORTS, counts);
-    print_kind(b"tables", TABLES, counts);
-    print_kind(b"operations", OPERATIONS, counts);
-    print_kind(b"states", STATES, counts);
-    print_kind(b"work afterwards", WORK, counts);
-    print_kind(b"expectation_z", Z, counts);
-    print_kind(b"z_correlation", ZZ, counts);
-    print_kind(b"expectation_z_product", PRODUCT, counts);
-    print_kind(b"marginal_probability", MARGINAL, counts);
-    print_kind(b"probability", PROBABILITY, counts);
-    print_kind(b"sample", SAMPLE, counts);
+pub fn print(rt: &impl Print, counts: &Counts) -> io::Result<()> {
+    print_kind(rt, "numbers and places", ANSWERS, counts)?;
+    print_kind(rt, "reports", REPORTS, counts)?;
+    print_kind(rt, "tables", TABLES, counts)?;
+    print_kind(rt, "operations", OPERATIONS, counts)?;
+    print_kind(rt, "states", STATES, counts)?;
+    print_kind(rt, "work afterwards", WORK, counts)?;
+    print_kind(rt, "expectation_z", Z, counts)?;
+    print_kind(rt, "z_correlation", ZZ, counts)?;
+    print_kind(rt, "expectation_z_product", PRODUCT, counts)?;
+    print_kind(rt, "marginal_probability", MARGINAL, counts)?;
+    print_kind(rt, "probability", PROBABILITY, counts)?;
+    print_kind(rt, "sample", SAMPLE, counts)
 }

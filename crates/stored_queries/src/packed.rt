@@ -74,10 +74,8 @@ pub fn unpack(s: &[u8], words: &mut [u64]) {
         at: 0,
         zeros: 0,
     };
-    let mut i = 0;
-    while i < words.len() {
+    for word in words.iter_mut() {
         x = next(s, x);
-        words[i] = x.value;
-        i += 1;
+        *word = x.value;
     }
 }

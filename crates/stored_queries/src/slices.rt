@@ -4,7 +4,7 @@ use laws::MAX_QUBITS;
 
 // A place so many words on. A record that leads too far reads as zeros there.
 pub fn plus(i: usize, words: usize) -> usize {
-    std::num::wrapping_add_usize(i, words)
+    i.wrapping_add(words)
 }
 
 // Word i; 0 beyond the end.
@@ -27,23 +27,19 @@ pub fn size_from(words: &[u64], first: usize, i: usize) -> usize {
 
 // Whether a slice is what stands from word `first` on.
 pub fn floats(v: &[f64], words: &[u64], first: usize) -> Compared {
-    let mut i = 0;
-    while i < v.len() {
-        if num::to_bits(v[i]) != word_from(words, first, i) {
+    for (i, x) in v.iter().enumerate() {
+        if num::to_bits(*x) != word_from(words, first, i) {
             return Compared::Differs(i);
         }
-        i += 1;
     }
     Compared::Same
 }
 
 pub fn numbers(v: &[u64], words: &[u64], first: usize) -> Compared {
-    let mut i = 0;
-    while i < v.len() {
-        if v[i] != word_from(words, first, i) {
+    for (i, x) in v.iter().enumerate() {
+        if *x != word_from(words, first, i) {
             return Compared::Differs(i);
         }
-        i += 1;
     }
     Compared::Same
 }
@@ -64,30 +60,24 @@ fn entry(words: &[u64], first: usize, i: usize, n: usize) -> u64 {
 }
 
 pub fn table(v: &[u16; MAX_QUBITS], words: &[u64], first: usize, n: usize) -> Compared {
-    let mut i = 0;
-    while i < MAX_QUBITS {
-        if num::wide_word(v[i]) != entry(words, first, i, n) {
+    for (i, x) in v.iter().enumerate() {
+        if num::wide_word(*x) != entry(words, first, i, n) {
             return Compared::Differs(i);
         }
-        i += 1;
     }
     Compared::Same
 }
 
 // Fills a slice from word `first` on.
 pub fn load_floats(v: &mut [f64], words: &[u64], first: usize) {
-    let mut i = 0;
-    while i < v.len() {
-        v[i] = num::from_bits(word_from(words, first, i));
-        i += 1;
+    for (i, x) in v.iter_mut().enumerate() {
+        *x = num::from_bits(word_from(words, first, i));
     }
 }
 
 pub fn load_sizes(v: &mut [usize], words: &[u64], first: usize) {
-    let mut i = 0;
-    while i < v.len() {
-        v[i] = size_from(words, first, i);
-        i += 1;
+    for (i, x) in v.iter_mut().enumerate() {
+        *x = size_from(words, first, i);
     }
 }
 
@@ -96,9 +86,7 @@ fn bit_from(words: &[u64], first: usize, i: usize) -> u8 {
 }
 
 pub fn load_bits(v: &mut [u8], words: &[u64], first: usize) {
-    let mut i = 0;
-    while i < v.len() {
-        v[i] = bit_from(words, first, i);
-        i += 1;
+    for (i, x) in v.iter_mut().enumerate() {
+        *x = bit_from(words, first, i);
     }
 }

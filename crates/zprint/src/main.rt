@@ -2,9 +2,9 @@
 
 #![tactic(auto)]
 
-use libc::STDIN_FILENO;
 use printing::print_from;
+use std::io;
 
-fn main() {
-    print_from(STDIN_FILENO);
+fn main(rt: HostRuntime) -> io::Result<()> {
+    print_from(&mut rt.stdin(), &mut io::writer(&rt))
 }
