@@ -33,3 +33,6 @@ pub fn read_full<R: Read>(reader: &mut R, space: &mut [u8]) -> io::Result<usize>
     }
     Ok(done)
 }
+
+#[cfg(test)]
+mod tests;
