@@ -7,7 +7,7 @@ use Rattle.num.specs.Order.{abs_of, max_of, min_of}
 use Rattle.num.specs.Root.{sqrt_of}
 use Rattle.gate.specs.Complex.{cx, f0, f1, c0, c1, is_zero_of}
 use Rattle.gate.specs.Matrix.{kron_row_of, kron_of, axpy_of, row_mul_of, mul4_of, conj_column_of, dag4_of}
-use Rattle.named.specs.Table.{f-1, c_1, ci, gate_cnot, gate_cz, gate_i_swap, gate_swap}
+use Rattle.named.specs.Table.{f-1, c-1, ci, gate_cnot, gate_cz, gate_i_swap, gate_swap}
 use Rattle.classify.specs.declared.diagonal.Rotation.TheVariants.{By, Nothing}
 use Rattle.classify.specs.declared.classify.Kind2.TheVariants.{Diag, Interaction, Match, NonGaussian}
 use Rattle.majorana.specs.Majorana.{
@@ -55,7 +55,7 @@ still : rotation_of c1 ≡ Nothing
 unfolding rotation_of turns_of unit_of norm_of sqrt_of add mul div lt eq of_bits
 still = refl
 
-half-turn : rotation_of c_1 ≡ By (map2 (real2 f-1 (neg f0)) (real2 f0 f-1))
+half-turn : rotation_of c-1 ≡ By (map2 (real2 f-1 (neg f0)) (real2 f0 f-1))
 unfolding rotation_of rotation_map_of turns_of unit_of norm_of sqrt_of add mul div neg lt eq of_bits
 half-turn = refl
 
@@ -65,7 +65,7 @@ none_1 : phase_none_of f0 c1 ≡ true
 unfolding phase_none_of abs_of mul lt le eq of_bits
 none_1 = refl
 
-some-minus : phase_none_of f1 c_1 ≡ false
+some-minus : phase_none_of f1 c-1 ≡ false
 unfolding phase_none_of abs_of mul lt le eq of_bits
 some-minus = refl
 

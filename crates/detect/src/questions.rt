@@ -63,7 +63,8 @@ fn compile_in(
     ensures ops { ops.new ≡ ops_after (ten_asked tape.now h ops.old) ops.old }
 {
     let r = detect(tape, h, g, w, u);
-    if ops.len() < OP_PLACES * (r.operations as usize) {
+    let room = ops.len();
+    if room < OP_PLACES * (r.operations as usize) {
         clear_floats(w);
         clear_marks(u);
         return refuse(10, 0);

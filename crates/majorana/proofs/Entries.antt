@@ -7,7 +7,7 @@ use Rattle.gate.specs.Complex.{cx, f0, c0, c1, is_zero_of}
 use Rattle.gate.specs.Matrix.{row4, mat4, kron_row_of, kron_of, axpy_of, row_mul_of, mul4_of}
 use Rattle.gate.specs.declared.complex.Complex.{Complex}
 use Rattle.gate.specs.declared.matrix.Mat4.{Mat4}
-use Rattle.named.specs.Table.{f-1, c_1, ci, c-i}
+use Rattle.named.specs.Table.{f-1, c-1, ci, c-i}
 use Rattle.majorana.specs.Majorana.{majorana0, majorana1, majorana2, majorana3}
 use Rattle.majorana.specs.Parts.{scaled_of}
 
@@ -29,7 +29,7 @@ abbrev pub yi : Mat4
 yi = mat4 (row4 c0 c0 c-i c0) (row4 c0 c0 c0 c-i) (row4 ci c0 c0 c0) (row4 c0 ci c0 c0)
 
 abbrev pub zx : Mat4
-zx = mat4 (row4 c0 c1 c0 c0) (row4 c1 c0 c0 c0) (row4 c0 c0 c-0 c_1) (row4 c0 c0 c_1 c-0)
+zx = mat4 (row4 c0 c1 c0 c0) (row4 c1 c0 c0 c0) (row4 c0 c0 c-0 c-1) (row4 c0 c0 c-1 c-0)
 
 abbrev pub zy : Mat4
 zy = mat4 (row4 c0 c-i c0 c0) (row4 ci c0 c0 c0) (row4 c0 c0 c-0 ci) (row4 c0 c0 c-1i c-0)
@@ -66,11 +66,11 @@ yi-times u = refl
 pub times1-is : (u : Mat4) → mul4_of majorana1 u ≡ mat4 (scaled_of c-i u.r2) (scaled_of c-i u.r3) (scaled_of ci u.r0) (scaled_of ci u.r1)
 times1-is u = ap (λ m. mul4_of m u) majorana1-is ∙ yi-times u
 
-zx-times : (u : Mat4) → mul4_of zx u ≡ mat4 (scaled_of c1 u.r1) (scaled_of c1 u.r0) (scaled_of c_1 u.r3) (scaled_of c_1 u.r2)
+zx-times : (u : Mat4) → mul4_of zx u ≡ mat4 (scaled_of c1 u.r1) (scaled_of c1 u.r0) (scaled_of c-1 u.r3) (scaled_of c-1 u.r2)
 unfolding mul4_of row_mul_of axpy_of is_zero_of scaled_of eq of_bits
 zx-times u = refl
 
-pub times2-is : (u : Mat4) → mul4_of majorana2 u ≡ mat4 (scaled_of c1 u.r1) (scaled_of c1 u.r0) (scaled_of c_1 u.r3) (scaled_of c_1 u.r2)
+pub times2-is : (u : Mat4) → mul4_of majorana2 u ≡ mat4 (scaled_of c1 u.r1) (scaled_of c1 u.r0) (scaled_of c-1 u.r3) (scaled_of c-1 u.r2)
 times2-is u = ap (λ m. mul4_of m u) majorana2-is ∙ zx-times u
 
 zy-times : (u : Mat4) → mul4_of zy u ≡ mat4 (scaled_of c-i u.r1) (scaled_of ci u.r0) (scaled_of ci u.r3) (scaled_of c-1i u.r2)

@@ -47,7 +47,7 @@ close_of a b = not (lt slack (abs_of (sub binary64 a b)))
 unfoldable pub close_row_of : Real4 → Real4 → Bool
 close_row_of r s = close_of r.x0 s.x0 && close_of r.x1 s.x1 && close_of r.x2 s.x2 && close_of r.x3 s.x3
 
--- row i of q_j is that of Jq, where r and j are the rows i of q and of J
+-- row i of qJ is that of Jq, where r and j are the rows i of q and of J
 unfoldable pub commutes_row_of : Map4 → Real4 → Real4 → Bool
 commutes_row_of q r j = close_row_of (real_row_mul_of r jay) (real_row_mul_of j q)
 

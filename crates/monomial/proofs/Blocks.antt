@@ -92,7 +92,7 @@ fails_test s f g k =
     let w = images (entries4 s f g k) in
     are_operators true w (read_all s w)
 
--- by w; where the sum of the phases is is_odd nothing is asked
+-- by w; where the sum of the phases is odd nothing is asked
 unfoldable pub verdict : Phase → Bool → Bool → Bool → Four Phase → Bool
 verdict i0 false f g k = fits_test false f g k
 verdict i0 true f g k = fails_test true f g k

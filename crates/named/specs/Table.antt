@@ -27,8 +27,8 @@ f√½ = of_bits binary64 0x3fe6_a09e_667f_3bcd
 abbrev pub f-√½ : Float
 f-√½ = of_bits binary64 0xbfe6_a09e_667f_3bcd
 
-abbrev pub c_1 : Complex
-c_1 = cx f-1 f0
+abbrev pub c-1 : Complex
+c-1 = cx f-1 f0
 
 abbrev pub ci : Complex
 ci = cx f0 f1
@@ -48,7 +48,7 @@ abbrev pub gate_y : Mat2
 gate_y = mat2 c0 c-i ci c0
 
 abbrev pub gate_z : Mat2
-gate_z = mat2 c1 c0 c0 c_1
+gate_z = mat2 c1 c0 c0 c-1
 
 abbrev pub gate_s : Mat2
 gate_s = mat2 c1 c0 c0 ci
@@ -75,7 +75,7 @@ abbrev pub gate_cnot : Mat4
 gate_cnot = mat4 (row4 c1 c0 c0 c0) (row4 c0 c1 c0 c0) (row4 c0 c0 c0 c1) (row4 c0 c0 c1 c0)
 
 abbrev pub gate_cz : Mat4
-gate_cz = mat4 (row4 c1 c0 c0 c0) (row4 c0 c1 c0 c0) (row4 c0 c0 c1 c0) (row4 c0 c0 c0 c_1)
+gate_cz = mat4 (row4 c1 c0 c0 c0) (row4 c0 c1 c0 c0) (row4 c0 c0 c1 c0) (row4 c0 c0 c0 c-1)
 
 abbrev pub gate_swap : Mat4
 gate_swap = mat4 (row4 c1 c0 c0 c0) (row4 c0 c0 c1 c0) (row4 c0 c1 c0 c0) (row4 c0 c0 c0 c1)

@@ -15,14 +15,14 @@ detect-r-requires c =
     let a = c.args in
     lent-space a.tape.now a.h a.g a.w.now a.u.now c.requires
 
-pub returns-then-ops-r : goal.returns-then-ops-r
+pub returns-then-room-r : goal.returns-then-room-r
 unfolding answer_of ops_after
-returns-then-ops-r c =
+returns-then-room-r c =
     let a = c.args in
     let k = content_of (parse a.tape.now) in
     let gs = k.gates in
     let p = c.detect-r.ensures in
-    let short = too_short a.h gs a.g a.w.now c.detect-r.new.w a.u.now c.detect-r.new.u c.detect-r.result p (length a.ops.now) c.if-ops-r.true in
+    let short = too_short a.h gs a.g a.w.now c.detect-r.new.w a.u.now c.detect-r.new.u c.detect-r.result p (length a.ops.now) c.if-room-r.true in
     let no = ten-short a.h k (length a.ops.now) short in
     record { answer = c.refuse.ensures ∙ sym (ap answer_of no); work = c.clear_floats.ensures ∙ filled-whole f0 nan a.w.now c.detect-r.new.w p.size; marks = c.clear_marks.ensures ∙ filled-whole 0 0 a.u.now c.detect-r.new.u p.marks; ops = sym (ap (λ x. ops_after x a.ops.now) no) }
 
@@ -34,7 +34,7 @@ pub emit-requires : goal.emit-requires
 emit-requires c =
     let a = c.args in
     let p = c.detect-r.ensures in
-    record { held = (p.held, p.kept); m_in_bounds = emits-fit a.h (content_of (parse a.tape.now)).gates a.g a.w.now c.detect-r.new.w a.u.now c.detect-r.new.u c.detect-r.result p (length a.ops.now) c.if-ops-r.false }
+    record { held = (p.held, p.kept); m_in_bounds = emits-fit a.h (content_of (parse a.tape.now)).gates a.g a.w.now c.detect-r.new.w a.u.now c.detect-r.new.u c.detect-r.result p (length a.ops.now) c.if-room-r.false }
 
 pub returns : goal.returns
 unfolding answer_of ops_after
@@ -43,7 +43,7 @@ returns c =
     let k = content_of (parse a.tape.now) in
     let gs = k.gates in
     let p = c.detect-r.ensures in
-    let long = long-enough a.h gs a.g a.w.now c.detect-r.new.w a.u.now c.detect-r.new.u c.detect-r.result p (length a.ops.now) c.if-ops-r.false in
+    let long = long-enough a.h gs a.g a.w.now c.detect-r.new.w a.u.now c.detect-r.new.u c.detect-r.result p (length a.ops.now) c.if-room-r.false in
     let yes = ten-long a.h k (length a.ops.now) long in
     record {
       answer = ap done p.report ∙ sym (ap answer_of yes);
