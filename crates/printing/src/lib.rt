@@ -1,6 +1,6 @@
 // What the printing programs share: a tape is read from an open file or from standard input, and its report
-// and the Z of every qubit are written to standard output. The buffer has more places than a tape that is
-// printed may have bytes, so a longer one shows.
+// and the Z of every qubit are written out. The buffer has more places than a tape that is printed may have
+// bytes, so a longer one shows.
 
 #![tactic(auto)]
 

@@ -1,5 +1,5 @@
-// Bytes read from a file or from standard input into a lent slice, which no call of a program enlarges: what is longer is cut off, and a program
-// whose slice has a place more than it accepts bytes sees that.
+// Bytes read from a file or from standard input into a lent slice. What is longer is cut off: a program whose slice has more places than it accepts
+// bytes sees that by the slice being full.
 
 #![tactic(auto)]
 

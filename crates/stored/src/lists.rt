@@ -21,7 +21,8 @@ const LIST_WORDS: usize = 8192;
 // Bytes before the tape of a record.
 const HEAD: usize = 16;
 
-// Reads a whole list: how many bytes it has. Where it cannot be opened the reason goes to standard error, and there are none.
+// Reads a whole list: how many bytes it has. Where it cannot be opened the reason goes to standard error, and there are none. An error is that of a read,
+// or of that writing.
 pub fn read_list(rt: &(impl Files + Eprint), path: &str, space: &mut [u8]) -> io::Result<usize>
     ensures { ReadsAtMost result space.new }
 {
