@@ -27,7 +27,7 @@ THEOREMS = [("engines", "Engines"), ("signs", "Signs"), ("signs", "Engines")]
 USE = re.compile(r"^(?:ghost )?use Rattle\.([a-z_0-9]+)\.(specs|proofs)\.([A-Za-z0-9_.-]+?)(?:\.\{([^}]*)\}| as (\S+))?;?$")
 CALL = re.compile(r"^pub (?:extern \"C\" )?fn ([a-z_0-9]+)\(.*?^\{$", re.M | re.S)
 DEFINES = re.compile(r"^ *(?:abbrev |unfoldable )?(?:pub )?(?:record |data )?(\S+) .*(?::|where)", re.M)
-WORD = re.compile(r"[^\s(){},.;⌜⌝]+")
+WORD = re.compile(r"[^\s(){},.;]+")
 
 
 def files():
