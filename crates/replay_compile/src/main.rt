@@ -202,7 +202,7 @@ fn count(s: &[u8], what: u64) -> Tally {
 
 fn replay(rt: &(impl Files + Print + Eprint), path: &str) -> io::Result<()> {
     let mut space = large_buffer();
-    let n = stored::named_list(rt, path, &mut space)?;
+    let n = stored::named_list(rt, path.as_bytes(), &mut space)?;
     let s = &space[..n];
     stored::print_tally(rt, "numbers and places", count(s, ANSWERS))?;
     stored::print_tally(rt, "reports", count(s, REPORTS))?;

@@ -222,7 +222,7 @@ fn print_matrices(rt: &impl Print, s: &[u8]) -> io::Result<()> {
 
 fn replay(rt: &(impl Files + Print + Eprint), path: &str) -> io::Result<()> {
     let mut space = large_buffer();
-    let n = stored::read_list(rt, path, &mut space)?;
+    let n = stored::read_list(rt, path.as_bytes(), &mut space)?;
     let s = &space[..n];
     print_numbers(rt, s)?;
     print_matrices(rt, s)?;

@@ -27,7 +27,7 @@ fn count(s: &[u8], counts: &mut Counts) {
 
 fn replay(rt: &(impl Files + Print + Eprint), path: &str) -> io::Result<()> {
     let mut space = large_buffer();
-    let n = stored::named_list(rt, path, &mut space)?;
+    let n = stored::named_list(rt, path.as_bytes(), &mut space)?;
     let mut counts: Counts = [0; counts::ENTRIES];
     count(&space[..n], &mut counts);
     counts::print(rt, &counts)

@@ -57,7 +57,7 @@ fn print_count(rt: &impl Print, s: &[u8], what: u64, name: &str) -> io::Result<(
 
 fn replay(rt: &(impl Files + Print + Eprint), path: &str) -> io::Result<()> {
     let mut space = large_buffer();
-    let n = stored::named_list(rt, path, &mut space)?;
+    let n = stored::named_list(rt, path.as_bytes(), &mut space)?;
     let s = &space[..n];
     print_count(rt, s, APPLY, "apply")?;
     print_count(rt, s, HOLDS, "states")?;

@@ -240,7 +240,7 @@ fn print_line(
 
 fn replay(rt: &(impl Files + Print + Eprint), path: &str) -> io::Result<()> {
     let mut space = large_buffer();
-    let n = stored::read_list(rt, path, &mut space)?;
+    let n = stored::read_list(rt, path.as_bytes(), &mut space)?;
     let s = &space[..n];
     print_line(rt, s, path, CHECK, false, "check_tape")?;
     print_line(rt, s, path, CHECK, true, "label")?;
