@@ -8,7 +8,7 @@ use Rattle.num.specs.Root.{sqrt_of}
 use Rattle.gate.specs.Complex.{cx, f0, f1, c0, c1, is_zero_of}
 use Rattle.gate.specs.Matrix.{kron_row_of, kron_of, axpy_of, row_mul_of, mul4_of, conj_column_of, dag4_of}
 use Rattle.named.specs.Table.{f-1, c-1, ci, gate_cnot, gate_cz, gate_i_swap, gate_swap}
-use Rattle.classify.specs.declared.diagonal.Rotation.TheVariants.{By, Nothing}
+use Rattle.std.specs.Prelude.{Some, None}
 use Rattle.classify.specs.declared.classify.Kind2.TheVariants.{Diag, Interaction, Match, NonGaussian}
 use Rattle.majorana.specs.Majorana.{
   largest_root_of,
@@ -51,11 +51,11 @@ unit-nan = refl
 
 -- ---- rotations: a wire with the phase 1 gets none, one with -1 or i gets one
 
-still : rotation_of c1 ≡ Nothing
+still : rotation_of c1 ≡ None
 unfolding rotation_of turns_of unit_of norm_of sqrt_of add mul div lt eq of_bits
 still = refl
 
-half-turn : rotation_of c-1 ≡ By (map2 (real2 f-1 (neg f0)) (real2 f0 f-1))
+half-turn : rotation_of c-1 ≡ Some (map2 (real2 f-1 (neg f0)) (real2 f0 f-1))
 unfolding rotation_of rotation_map_of turns_of unit_of norm_of sqrt_of add mul div neg lt eq of_bits
 half-turn = refl
 

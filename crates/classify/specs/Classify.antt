@@ -1,7 +1,7 @@
 -- What a two-qubit block is (`classify2` of detect.rs): its tests in that order, with document 01's phase in the place of g. The answer has the kind with
 -- its residual, the matrix to apply, v (where `swap` is true the block is SWAP · v), and whether the block is angled. Assumes nothing.
 -- A public promise rests on this.
-use Rattle.std.specs.Prelude.{Bool, true, false, cond, not, ◌&&◌, ◌||◌, ℕ, Float}
+use Rattle.std.specs.Prelude.{Bool, true, false, cond, not, ◌&&◌, ◌||◌, ℕ, ◌+◌, Float}
 use Rattle.std.specs.Float.Ieee.{le}
 use Rattle.num.specs.Order.{min_of}
 use Rattle.gate.specs.Complex.{f0}
@@ -9,6 +9,8 @@ use Rattle.gate.specs.declared.matrix.Mat4.{Mat4}
 use Rattle.majorana.specs.Majorana.{majorana_map2_of, swap4_of}
 use Rattle.classify.specs.declared.classify.Kind2.{Kind2}
 use Rattle.classify.specs.declared.classify.Kind2.TheVariants.{Diag, Interaction, Match, NonGaussian}
+use Rattle.classify.specs.declared.classify.Rank.{Rank}
+use Rattle.classify.specs.declared.classify.Rank.TheVariants.{Gaussian, Interaction as InteractionRank, Neither}
 use Rattle.classify.specs.declared.classify.Class2.{Class2}
 use Rattle.classify.specs.Diagonal.{offdiag4_of, interaction_of, phase_none_of}
 
@@ -72,9 +74,26 @@ rank_of Interaction = 1
 rank_of (Match r) = 0
 rank_of (NonGaussian r) = 2
 
+-- the number of each rank
+abbrev pub rank_number : Rank → ℕ
+rank_number Gaussian = 0
+rank_number InteractionRank = 1
+rank_number Neither = 2
+
 -- "Matchgate residual (0 for diagonal blocks)"
 abbrev pub residual_of : Kind2 → Float
 residual_of Diag = f0
 residual_of Interaction = f0
 residual_of (Match r) = r
 residual_of (NonGaussian r) = r
+
+-- the number of a kind, of which C and the stored results speak
+abbrev pub kind_code_of : Kind2 → ℕ
+kind_code_of Diag = 0
+kind_code_of Interaction = 1
+kind_code_of (Match r) = 2
+kind_code_of (NonGaussian r) = 3
+
+-- that of a class: 4 more for a swap, and 8 more where it is angled
+unfoldable pub code_of : Class2 → ℕ
+code_of c = kind_code_of c.kind + cond c.swap 4 0 + cond c.angled 8 0

@@ -1,7 +1,7 @@
 -- Diagonal blocks (document 01, "Diagonal blocks"): the off-diagonal norm of detect.rs, p_a, p_b and w of a diagonal d0..d3, when the phase counts as
 -- none, the unit of a complex number, and the rotation that a wire gets. Every operation is one of f64, rounded. Assumes nothing.
 -- A public promise rests on this.
-use Rattle.std.specs.Prelude.{Bool, cond, not, ◌&&◌, Float}
+use Rattle.std.specs.Prelude.{Bool, cond, not, ◌&&◌, Float, Option, Some, None}
 use Rattle.std.specs.Float.{binary64}
 use Rattle.std.specs.Float.Ieee.{add, mul, div, neg, lt, le, eq}
 use Rattle.std.specs.Float.Ieee.Scale.{finite}
@@ -12,8 +12,6 @@ use Rattle.num.specs.Root.{sqrt_of}
 use Rattle.gate.specs.Complex.{◌*ℂ◌, conj_of, norm_sqr_of, cx, f0, c1}
 use Rattle.gate.specs.declared.complex.Complex.{Complex}
 use Rattle.gate.specs.declared.matrix.Mat4.{Mat4}
-use Rattle.classify.specs.declared.diagonal.Rotation.{Rotation}
-use Rattle.classify.specs.declared.diagonal.Rotation.TheVariants.{By, Nothing}
 
 -- ---- the off-diagonal norm
 
@@ -74,5 +72,5 @@ unfoldable pub rotation_map_of : Complex → Map2
 rotation_map_of u = map2 (real2 u.re (neg u.im)) (real2 u.im u.re)
 
 -- the rotation that a wire with the phase p gets, if it gets one
-unfoldable pub rotation_of : Complex → Rotation
-rotation_of p = cond (turns_of (unit_of p)) (By (rotation_map_of (unit_of p))) Nothing
+unfoldable pub rotation_of : Complex → Option Map2
+rotation_of p = cond (turns_of (unit_of p)) (Some (rotation_map_of (unit_of p))) None

@@ -1,5 +1,6 @@
 // Diagonal blocks: the off-diagonal norm, the phases of the two wires, the phase of the two together,
 // and the rotation that a wire gets.
+
 ghost use Rattle.std.specs.Prelude.{◌≡◌};
 ghost use Rattle.classify.specs.Diagonal.{plus_three_of, offdiag4_of, phase_a_of, phase_b_of, interaction_of, phase_none_of, unit_of, turns_of, rotation_map_of, rotation_of};
 ghost use Rattle.classify.specs.Parts.{divisor_of};
@@ -7,14 +8,8 @@ ghost use Rattle.classify.specs.Parts.{divisor_of};
 use gate::{Complex, Mat4};
 use real::{Map2, Real2};
 
-// The rotation of a wire, or none.
-#[derive(Clone, Copy)]
-pub enum Rotation {
-    By(Map2),
-    Nothing,
-}
-
 // s + the squares of three entries.
+#[tactic(auto, unfolding(crate::specs::Diagonal::plus_three_of))]
 fn plus_three(s: f64, a: Complex, b: Complex, c: Complex) -> f64
     ensures { result ≡ plus_three_of s a b c }
 {
@@ -24,6 +19,7 @@ fn plus_three(s: f64, a: Complex, b: Complex, c: Complex) -> f64
 }
 
 // The Frobenius norm of what is off the diagonal.
+#[tactic(auto, unfolding(crate::specs::Diagonal::offdiag4_of, crate::specs::Diagonal::off_square_of))]
 pub fn offdiag4(u: Mat4) -> f64
     ensures { result ≡ offdiag4_of u }
 {
@@ -33,51 +29,47 @@ pub fn offdiag4(u: Mat4) -> f64
     num::sqrt(plus_three(s2, u.r3.c0, u.r3.c1, u.r3.c2))
 }
 
-// p_a, the phase of the first wire.
+// p_a, the phase of the first wire. It and p_b are two functions, since an entry of a matrix is a field and goes by no number.
+#[tactic(auto, unfolding(crate::specs::Diagonal::phase_a_of))]
 pub fn phase_a(u: Mat4) -> Complex
     ensures { result ≡ phase_a_of u }
 {
-    u.r2.c2.mul(u.r0.c0.conj())
+    u.r2.c2 * u.r0.c0.conj()
 }
 
 // p_b, the phase of the second wire.
+#[tactic(auto, unfolding(crate::specs::Diagonal::phase_b_of))]
 pub fn phase_b(u: Mat4) -> Complex
     ensures { result ≡ phase_b_of u }
 {
-    u.r1.c1.mul(u.r0.c0.conj())
+    u.r1.c1 * u.r0.c0.conj()
 }
 
 // w, the phase of the two wires together.
+#[tactic(auto, unfolding(crate::specs::Diagonal::interaction_of))]
 pub fn interaction(u: Mat4) -> Complex
     ensures { result ≡ interaction_of u }
 {
-    let outer = u.r0.c0.mul(u.r3.c3);
-    let inner = u.r1.c1.mul(u.r2.c2);
-    let back = inner.conj();
-    outer.mul(back)
+    u.r0.c0 * u.r3.c3 * (u.r1.c1 * u.r2.c2).conj()
 }
 
 // Whether the phase w counts as none.
+#[tactic(auto, unfolding(crate::specs::Diagonal::phase_none_of))]
 pub fn phase_none(tol: f64, w: Complex) -> bool
     ensures { result ≡ phase_none_of tol w }
 {
-    if w.re > 0.0 {
-        return num::abs(w.im) <= tol * w.re;
-    }
-    false
+    w.re > 0.0 && num::abs(w.im) <= tol * w.re
 }
 
 // Whether a norm is finite and above zero.
 fn divisor(r: f64) -> bool
     ensures { result ≡ divisor_of r }
 {
-    if r > 0.0 {
-        return r < 1.0 / 0.0;
-    }
-    false
+    r > 0.0 && r < 1.0 / 0.0
 }
 
 // p divided by its norm; 1 where that cannot be.
+#[tactic(auto, unfolding(crate::specs::Diagonal::unit_of, crate::specs::Diagonal::norm_of, crate::specs::Parts::divisor_of))]
 pub fn unit(p: Complex) -> Complex
     ensures { result ≡ unit_of p }
 {
@@ -88,20 +80,19 @@ pub fn unit(p: Complex) -> Complex
             im: p.im / r,
         };
     }
-    Complex { re: 1.0, im: 0.0 }
+    Complex::ONE
 }
 
 // Whether a wire with this unit gets a rotation.
+#[tactic(auto, unfolding(crate::specs::Diagonal::turns_of))]
 fn turns(u: Complex) -> bool
     ensures { result ≡ turns_of u }
 {
-    if u.im == 0.0 {
-        return !(u.re > 0.0);
-    }
-    true
+    !(u.im == 0.0 && u.re > 0.0)
 }
 
 // The rotation by a unit.
+#[tactic(auto, unfolding(crate::specs::Diagonal::rotation_map_of))]
 fn rotation_map(u: Complex) -> Map2
     ensures { result ≡ rotation_map_of u }
 {
@@ -113,13 +104,14 @@ fn rotation_map(u: Complex) -> Map2
     Map2 { r0, r1 }
 }
 
-// The rotation that a wire with the phase p gets.
-pub fn rotation_of(p: Complex) -> Rotation
+// The rotation that a wire with the phase p gets, if it gets one.
+#[tactic(auto, unfolding(crate::specs::Diagonal::rotation_of))]
+pub fn rotation_of(p: Complex) -> Option<Map2>
     ensures { result ≡ rotation_of p }
 {
     let u = unit(p);
     if turns(u) {
-        return Rotation::By(rotation_map(u));
+        return Some(rotation_map(u));
     }
-    Rotation::Nothing
+    None
 }

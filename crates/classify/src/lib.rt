@@ -6,5 +6,5 @@
 mod diagonal; // the off-diagonal norm, phases and rotations
 mod classify; // what a two-qubit block is
 
-pub use classify::{Class2, Kind2, classify2, rank, residual};
-pub use diagonal::{Rotation, interaction, offdiag4, phase_a, phase_b, rotation_of, unit};
+pub use classify::{Class2, Kind2, Rank, classify2};
+pub use diagonal::{interaction, offdiag4, phase_a, phase_b, rotation_of, unit};

@@ -2,6 +2,8 @@
 ghost use Rattle.std.specs.Prelude.{◌≡◌};
 ghost use Rattle.gate.specs.Complex.{◌+ℂ◌, ◌-ℂ◌, ◌*ℂ◌, scale_of, conj_of, norm_sqr_of, is_zero_of};
 
+use std::ops::{Add, Mul, Sub};
+
 #[derive(Clone, Copy)]
 pub struct Complex {
     pub re: f64,
@@ -9,32 +11,15 @@ pub struct Complex {
 }
 
 impl Complex {
-    pub fn add(self, b: Complex) -> Complex
-        ensures { result ≡ self +ℂ b }
-    {
-        Complex {
-            re: self.re + b.re,
-            im: self.im + b.im,
-        }
-    }
+    pub const ZERO: Complex = Complex { re: 0.0, im: 0.0 };
 
-    pub fn sub(self, b: Complex) -> Complex
-        ensures { result ≡ self -ℂ b }
-    {
-        Complex {
-            re: self.re - b.re,
-            im: self.im - b.im,
-        }
-    }
+    pub const ONE: Complex = Complex { re: 1.0, im: 0.0 };
 
-    pub fn mul(self, b: Complex) -> Complex
-        ensures { result ≡ self *ℂ b }
-    {
-        Complex {
-            re: self.re * b.re - self.im * b.im,
-            im: self.re * b.im + self.im * b.re,
-        }
-    }
+    pub const MINUS: Complex = Complex { re: -1.0, im: 0.0 };
+
+    pub const IMAG: Complex = Complex { re: 0.0, im: 1.0 };
+
+    pub const MINUS_IMAG: Complex = Complex { re: 0.0, im: -1.0 };
 
     // The product with a real number: num-complex multiplies each part, and nothing is added.
     pub fn scale(self, x: f64) -> Complex
@@ -63,13 +48,49 @@ impl Complex {
     }
 
     // Whether it equals zero, as == of the original has it: zeros of either sign do.
+    #[tactic(auto, unfolding(crate::specs::Complex::is_zero_of))]
     pub fn is_zero(self) -> bool
         ensures { result ≡ is_zero_of self }
     {
-        if self.re == 0.0 {
-            self.im == 0.0
-        } else {
-            false
+        self.re == 0.0 && self.im == 0.0
+    }
+}
+
+impl Add for Complex {
+    type Output = Complex;
+
+    ghost add_gives = { λ a b c. c ≡ a +ℂ b };
+
+    fn add(self, b: Complex) -> Complex {
+        Complex {
+            re: self.re + b.re,
+            im: self.im + b.im,
+        }
+    }
+}
+
+impl Sub for Complex {
+    type Output = Complex;
+
+    ghost sub_gives = { λ a b c. c ≡ a -ℂ b };
+
+    fn sub(self, b: Complex) -> Complex {
+        Complex {
+            re: self.re - b.re,
+            im: self.im - b.im,
+        }
+    }
+}
+
+impl Mul for Complex {
+    type Output = Complex;
+
+    ghost mul_gives = { λ a b c. c ≡ a *ℂ b };
+
+    fn mul(self, b: Complex) -> Complex {
+        Complex {
+            re: self.re * b.re - self.im * b.im,
+            im: self.re * b.im + self.im * b.re,
         }
     }
 }

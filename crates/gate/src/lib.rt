@@ -7,10 +7,8 @@ mod complex; // a complex number is a struct of two floats, as num-complex has i
 mod matrix; // matrices as structs of rows, and their products
 mod given; // matrices in bytes, as a tape gives them
 mod lent; // matrices in a lent slice of floats
+mod size; // what matrices of both sizes have in common
 
 pub use complex::Complex;
-pub use given::{given2, given4};
-pub use lent::{load2, load4, store2, store4};
-pub use matrix::{
-    Mat2, Mat4, Row2, Row4, dag2, dag4, identity2, kron, mat4_swap_qubits, mul2, mul4, time_step,
-};
+pub use matrix::{Mat2, Mat4, Row2, Row4, kron, mat4_swap_qubits, time_step};
+pub use size::Matrix;

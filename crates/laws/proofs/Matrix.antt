@@ -3,7 +3,7 @@
 use mathlib.Core.Path.{◌≡◌, refl, sym, ap, subst, ◌∙◌}
 use mathlib.Core.Logic.{◌⊎◌, inl, inr}
 use mathlib.Core.List.{List}
-use Prim.Native.Nat.{ℕ, zero, suc, ◌+◌, ◌*◌, ◌-◌, ◌/◌, ◌%◌, ◌≤◌, ◌<◌, zero-le, suc-le-suc}
+use Prim.Native.Nat.{ℕ, zero, suc, ◌+◌, ◌*◌, ◌/◌, ◌%◌, ◌≤◌, ◌<◌, zero-le, suc-le-suc}
 use native.Mathlib.Nat.{mul-le-mul_right, suc-mul, div-lt_iff_lt-mul, div-add-mod', mod-lt, not-suc-le-zero, zero-mul, le_trans}
 use native.Mathlib.Omega.{arith}
 use lib.Arith.{digits_lt, digits_div, digits_mod}
@@ -12,7 +12,7 @@ use lib.Seq.{ext_get_or, get_or-set_same, get_or-set_other}
 use lib.Ieee.{Float, nan}
 use borrow.Author.Tests.{lt-ltb, le-ltb}
 use Rattle.laws.specs.Slices.{filled}
-use Rattle.laws.specs.Matrix.{Mat, at, matrix, Is, Inside, Holds}
+use Rattle.laws.specs.Matrix.{Mat, at, matrix, Is, Inside}
 use Rattle.laws.proofs.Cases.{lt-or-le}
 use Rattle.laws.proofs.Slices.{filled-over}
 use Rattle.laws.proofs.Views.{length-list_of, get_or-list_of}
@@ -29,13 +29,6 @@ part_in dim r s k h b = omega (arith, suc-mul r dim, mul-le-mul_right {m = suc r
 -- the same within the list, as an index and a part ask it
 pub entry_in : {m : List Float} {dim r c : ℕ} → Inside m dim r c → r * dim + c < length m
 entry_in {dim = dim} {r} {c} w = le_trans (place_in dim r c w.row w.col) w.room
-
-pub band-in : {m : List Float} {dim s k : ℕ} → Holds m dim s k → (r : ℕ) → r < dim → r * dim + s + k ≤ length m
-band-in {dim = dim} {s} {k} w r h = le_trans (part_in dim r s k h w.band) w.room
-
--- a matrix has at least as many places as columns
-pub dim-in : {m : List Float} {dim s k : ℕ} → Holds m dim s k → 0 < k → dim ≤ length m
-dim-in {dim = dim} w h = omega (arith, place_in dim 0 (dim - 1) (omega (arith, w.band)) (omega (arith, w.band)), w.room)
 
 -- two places are equal only if their rows and columns are
 pub row_of : (dim r c r' c' : ℕ) → c < dim → c' < dim → r * dim + c ≡ r' * dim + c' → r ≡ r'

@@ -46,15 +46,6 @@ module _ (f : ℕ → Bool) where
   unfolding all_below
   all_more n t e = rw (add-one, t, e)
 
-  -- one more that holds
-  pub all-next : (n : ℕ) (b : Bool) → b ≡ all_below f n → f n ≡ true → b ≡ all_below f (n + 1)
-  unfolding all_below
-  all-next n b t e = rw (add-one, e) (t ∙ and-true (all_below f n))
-    where
-      and-true : (b : Bool) → b ≡ b && true
-      and-true true = refl
-      and-true false = refl
-
   -- all hold
   pub all_of : (n : ℕ) → ((k : ℕ) → k < n → f k ≡ true) → all_below f n ≡ true
   unfolding all_below

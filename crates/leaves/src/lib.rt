@@ -1,10 +1,10 @@
 // The leaves as a static library, for timing and comparison from C and Rust (bench/). A matrix is 8
 // or 32 floats, row by row, real before imaginary. A slice that is too short reads as zeros, and
-// nothing is written to one.
+// nothing is written to one. C names each size and each function by itself.
 
-#![tactic(auto)]
+#![tactic(auto, unfolding(crate::specs::Slices::first2_of, crate::specs::Slices::first4_of, crate::specs::Slices::put2_of, crate::specs::Slices::put4_of))]
 
-ghost use Rattle.std.specs.Prelude.{◌≡◌, cond, ◌<◌, ◌≤◌};
+ghost use Rattle.std.specs.Prelude.{◌≡◌};
 ghost use Rattle.std.specs.Float.{binary64};
 ghost use Rattle.std.specs.Float.Ieee.{of_bits};
 ghost use Rattle.num.specs.Root.{sqrt_of};
@@ -12,14 +12,13 @@ ghost use Rattle.num.specs.Order.{abs_of, max_of, min_of, clamp_of};
 ghost use Rattle.num.specs.Bits.{bits_of};
 ghost use Rattle.gate.specs.Matrix.{mul2_of, dag2_of, kron_of, mul4_of, dag4_of, mat4_swap_qubits_of};
 ghost use Rattle.majorana.specs.Majorana.{majorana_map1_of, majorana_map2_of};
-ghost use Rattle.classify.specs.Classify.{classify2_of, residual_of};
-ghost use Rattle.leaves.specs.Slices.{first2_of, first4_of, put2_of, put4_of};
-ghost use Rattle.leaves.specs.Classes.{flat2_of, joined_of, flat4_of, kind_code_of, code_of};
+ghost use Rattle.classify.specs.Classify.{classify2_of, residual_of, code_of};
+ghost use Rattle.leaves.specs.Slices.{first_of, first2_of, first4_of, put_of, put2_of, put4_of};
+ghost use Rattle.leaves.specs.Classes.{flat2_of, joined_of, flat4_of};
 
-use classify::{Class2, Kind2};
-use gate::{Complex, Mat2, Mat4, Row2, Row4};
-use majorana::{Mapped2, Mapped4};
-use real::Real4;
+use gate::{Complex, Mat2, Mat4, Matrix, Row2, Row4};
+use majorana::Mapped;
+use real::{Map2, Map4, Real4};
 
 #[unsafe(no_mangle)]
 pub extern "C" fn leaf_sqrt(x: f64) -> f64
@@ -70,91 +69,70 @@ pub extern "C" fn leaf_to_bits(x: f64) -> u64
     num::to_bits(x)
 }
 
-// The 2 by 2 matrix at the start of a slice, and zeros where that is too short.
-fn first2(a: &[f64]) -> Mat2
-    ensures { result ≡ first2_of a.now }
+// The matrix at the start of a slice, and zeros where that is too short.
+fn first<M: Matrix>(a: &[f64]) -> M
+    ensures { result ≡ first_of M.FLOATS M.ZERO M.loaded a.now }
 {
-    if a.len() < 8 {
-        return gate::load2(&[0.0; 8], 0);
+    if a.len() < M::FLOATS {
+        return M::ZERO;
     }
-    gate::load2(a, 0)
-}
-
-// The 4 by 4 matrix at the start of a slice, and zeros where that is too short.
-fn first4(a: &[f64]) -> Mat4
-    ensures { result ≡ first4_of a.now }
-{
-    if a.len() < 32 {
-        return gate::load4(&[0.0; 32], 0);
-    }
-    gate::load4(a, 0)
+    M::load(a, 0)
 }
 
 // Writes a matrix to the start of a slice that is long enough.
-fn put2(out: &mut [f64], m: Mat2)
-    ensures { out.new ≡ put2_of out.old m }
+fn put<M: Matrix>(out: &mut [f64], m: M)
+    ensures { out.new ≡ put_of M.FLOATS M.stored out.old m }
 {
-    if out.len() < 8 {
-        return;
+    if M::FLOATS <= out.len() {
+        m.store(out, 0);
     }
-    gate::store2(out, 0, m);
-}
-
-fn put4(out: &mut [f64], m: Mat4)
-    ensures { out.new ≡ put4_of out.old m }
-{
-    if out.len() < 32 {
-        return;
-    }
-    gate::store4(out, 0, m);
 }
 
 #[unsafe(no_mangle)]
 pub extern "C" fn leaf_mul2(a: &[f64], b: &[f64], out: &mut [f64])
     ensures { out.new ≡ put2_of out.old (mul2_of (first2_of a.now) (first2_of b.now)) }
 {
-    put2(out, gate::mul2(first2(a), first2(b)));
+    put(out, first::<Mat2>(a) * first::<Mat2>(b));
 }
 
 #[unsafe(no_mangle)]
 pub extern "C" fn leaf_dag2(a: &[f64], out: &mut [f64])
     ensures { out.new ≡ put2_of out.old (dag2_of (first2_of a.now)) }
 {
-    put2(out, gate::dag2(first2(a)));
+    put(out, first::<Mat2>(a).adjoint());
 }
 
 #[unsafe(no_mangle)]
 pub extern "C" fn leaf_kron(a: &[f64], b: &[f64], out: &mut [f64])
     ensures { out.new ≡ put4_of out.old (kron_of (first2_of a.now) (first2_of b.now)) }
 {
-    put4(out, gate::kron(first2(a), first2(b)));
+    put(out, gate::kron(first(a), first(b)));
 }
 
 #[unsafe(no_mangle)]
 pub extern "C" fn leaf_mul4(a: &[f64], b: &[f64], out: &mut [f64])
     ensures { out.new ≡ put4_of out.old (mul4_of (first4_of a.now) (first4_of b.now)) }
 {
-    put4(out, gate::mul4(first4(a), first4(b)));
+    put(out, first::<Mat4>(a) * first::<Mat4>(b));
 }
 
 #[unsafe(no_mangle)]
 pub extern "C" fn leaf_dag4(a: &[f64], out: &mut [f64])
     ensures { out.new ≡ put4_of out.old (dag4_of (first4_of a.now)) }
 {
-    put4(out, gate::dag4(first4(a)));
+    put(out, first::<Mat4>(a).adjoint());
 }
 
 #[unsafe(no_mangle)]
 pub extern "C" fn leaf_swap_qubits(a: &[f64], out: &mut [f64])
     ensures { out.new ≡ put4_of out.old (mat4_swap_qubits_of (first4_of a.now)) }
 {
-    put4(out, gate::mat4_swap_qubits(first4(a)));
+    put(out, gate::mat4_swap_qubits(first(a)));
 }
 
-const ZERO: Complex = Complex { re: 0.0, im: 0.0 };
-
-// The 4 entries of a map, its residual and zeros, as the 8 floats of a matrix.
-fn flat2(m: Mapped2) -> Mat2
+// The 4 entries of a map of one mode, its residual and zeros, as the 8 floats of a matrix.
+#[tactic(auto, unfolding(crate::specs::Classes::flat2_of))]
+fn flat2(m: Mapped<Map2>) -> Mat2
     ensures { result ≡ flat2_of m }
 {
     let q = m.q;
@@ -172,7 +150,10 @@ fn flat2(m: Mapped2) -> Mat2
     };
     Mat2 {
         r0: Row2 { c0: a, c1: b },
-        r1: Row2 { c0: c, c1: ZERO },
+        r1: Row2 {
+            c0: c,
+            c1: Complex::ZERO,
+        },
     }
 }
 
@@ -188,8 +169,9 @@ fn joined(a: Real4, b: Real4) -> Row4
     }
 }
 
-// The 16 entries of a map, its residual and zeros, as the 32 floats of a matrix.
-fn flat4(m: Mapped4) -> Mat4
+// The 16 entries of a map of two, its residual and zeros, as the 32 floats of a matrix.
+#[tactic(auto, unfolding(crate::specs::Classes::flat4_of))]
+fn flat4(m: Mapped<Map4>) -> Mat4
     ensures { result ≡ flat4_of m }
 {
     let q = m.q;
@@ -200,16 +182,9 @@ fn flat4(m: Mapped4) -> Mat4
             re: m.residual,
             im: 0.0,
         },
-        c1: ZERO,
-        c2: ZERO,
-        c3: ZERO,
+        ..Row4::ZERO
     };
-    let r3 = Row4 {
-        c0: ZERO,
-        c1: ZERO,
-        c2: ZERO,
-        c3: ZERO,
-    };
+    let r3 = Row4::ZERO;
     Mat4 { r0, r1, r2, r3 }
 }
 
@@ -217,45 +192,14 @@ fn flat4(m: Mapped4) -> Mat4
 pub extern "C" fn leaf_majorana_map1(u: &[f64], out: &mut [f64])
     ensures { out.new ≡ put2_of out.old (flat2_of (majorana_map1_of (first2_of u.now))) }
 {
-    put2(out, flat2(majorana::majorana_map1(first2(u))));
+    put(out, flat2(majorana::majorana_map1(first(u))));
 }
 
 #[unsafe(no_mangle)]
 pub extern "C" fn leaf_majorana_map2(u: &[f64], out: &mut [f64])
     ensures { out.new ≡ put4_of out.old (flat4_of (majorana_map2_of (first4_of u.now))) }
 {
-    put4(out, flat4(majorana::majorana_map2(first4(u))));
-}
-
-fn kind_code(k: Kind2) -> u32
-    ensures { (result ≡ kind_code_of k) × (result < 4) }
-{
-    match k {
-        Kind2::Diag => 0,
-        Kind2::Interaction => 1,
-        Kind2::Match(_) => 2,
-        Kind2::NonGaussian(_) => 3,
-    }
-}
-
-fn weight(b: bool, w: u32) -> u32
-    ensures { (result ≡ cond b w 0) × (result ≤ w) }
-{
-    if b {
-        return w;
-    }
-    0
-}
-
-// The number of a class.
-fn code(c: Class2) -> u32
-    ensures { result ≡ code_of c }
-{
-    let k = c.kind;
-    let n = kind_code(k);
-    let s = weight(c.swap, 4);
-    let a = weight(c.angled, 8);
-    n + s + a
+    put(out, flat4(majorana::majorana_map2(first(u))));
 }
 
 // Writes the matrix to apply, and returns the class's number.
@@ -264,9 +208,9 @@ pub extern "C" fn leaf_classify2(relabel: bool, tol: f64, u: &[f64], out: &mut [
     ensures number { result ≡ code_of (classify2_of relabel tol (first4_of u.now)) }
     ensures matrix { out.new ≡ put4_of out.old (classify2_of relabel tol (first4_of u.now)).v }
 {
-    let c = classify::classify2(relabel, tol, first4(u));
-    put4(out, c.v);
-    code(c)
+    let c = classify::classify2(relabel, tol, first(u));
+    put(out, c.v);
+    c.code()
 }
 
 // The residual of the class.
@@ -274,7 +218,6 @@ pub extern "C" fn leaf_classify2(relabel: bool, tol: f64, u: &[f64], out: &mut [
 pub extern "C" fn leaf_class_residual(relabel: bool, tol: f64, u: &[f64]) -> f64
     ensures { result ≡ residual_of (classify2_of relabel tol (first4_of u.now)).kind }
 {
-    let c = classify::classify2(relabel, tol, first4(u));
-    let k = c.kind;
-    classify::residual(k)
+    let c = classify::classify2(relabel, tol, first(u));
+    c.kind.residual()
 }

@@ -17,8 +17,9 @@ use Rattle.gate.specs.declared.matrix.Mat2.{Mat2}
 use Rattle.gate.specs.declared.matrix.Row4.{Row4}
 use Rattle.gate.specs.declared.matrix.Mat4.{Mat4}
 use Rattle.named.specs.Table.{gate_x, gate_y, gate_z, gate_swap}
-use Rattle.majorana.specs.declared.maps.Mapped2.{Mapped2}
-use Rattle.majorana.specs.declared.maps.Mapped4.{Mapped4}
+use Rattle.real.specs.declared.maps.Map2.{Map2}
+use Rattle.real.specs.declared.maps.Map4.{Map4}
+use Rattle.majorana.specs.declared.maps.Mapped.{Mapped}
 
 -- 4.0
 abbrev pub f4 : Float
@@ -82,7 +83,7 @@ map_row2_of c u = coefficients2_of (image2_of c u)
 unfoldable pub map_distance2_of : Mat2 → Mat2 → Float
 map_distance2_of c u = distance2_of (image2_of c u) (map_row2_of c u)
 
-unfoldable pub majorana_map1_of : Mat2 → Mapped2
+unfoldable pub majorana_map1_of : Mat2 → Mapped Map2
 majorana_map1_of u = record {
   q = map2 (map_row2_of gate_x u) (map_row2_of gate_y u);
   residual = largest_root_of f0 (map_distance2_of gate_x u ∷ map_distance2_of gate_y u ∷ []);
@@ -165,7 +166,7 @@ map_row4_of c u = coefficients4_of (image4_of c u)
 unfoldable pub map_distance4_of : Mat4 → Mat4 → Float
 map_distance4_of c u = distance4_of (image4_of c u) (map_row4_of c u)
 
-unfoldable pub majorana_map2_of : Mat4 → Mapped4
+unfoldable pub majorana_map2_of : Mat4 → Mapped Map4
 majorana_map2_of u = record {
   q = map4 (map_row4_of majorana0 u) (map_row4_of majorana1 u) (map_row4_of majorana2 u) (map_row4_of majorana3 u);
   residual = largest_root_of f0 (map_distance4_of majorana0 u ∷ map_distance4_of majorana1 u ∷ map_distance4_of majorana2 u ∷ map_distance4_of majorana3 u ∷ []);

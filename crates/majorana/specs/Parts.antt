@@ -11,8 +11,9 @@ use Rattle.gate.specs.declared.matrix.Row2.{Row2}
 use Rattle.gate.specs.declared.matrix.Mat2.{Mat2}
 use Rattle.gate.specs.declared.matrix.Row4.{Row4}
 use Rattle.gate.specs.declared.matrix.Mat4.{Mat4}
-use Rattle.majorana.specs.declared.one_mode.Fitted2.{Fitted2}
-use Rattle.majorana.specs.declared.two_modes.Fitted4.{Fitted4}
+use Rattle.real.specs.declared.maps.Real2.{Real2}
+use Rattle.real.specs.declared.maps.Real4.{Real4}
+use Rattle.majorana.specs.declared.maps.Fitted.{Fitted}
 use Rattle.majorana.specs.Majorana.{coefficients2_of, distance2_of, coefficients4_of, distance4_of}
 
 -- ---- products
@@ -38,10 +39,10 @@ re_trace_row4_of t r s =
 
 -- ---- one row of a map with its part of the residual, from w = U† c U
 
-unfoldable pub fitted2_of : Mat2 → Fitted2
+unfoldable pub fitted2_of : Mat2 → Fitted Real2
 fitted2_of w = record { q = coefficients2_of w; d = distance2_of w (coefficients2_of w) }
 
-unfoldable pub fitted4_of : Mat4 → Fitted4
+unfoldable pub fitted4_of : Mat4 → Fitted Real4
 fitted4_of w = record { q = coefficients4_of w; d = distance4_of w (coefficients4_of w) }
 
 -- ---- the largest, before any root is taken

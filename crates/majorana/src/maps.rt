@@ -1,17 +1,15 @@
-// The map of one mode or of two that a block makes of the Majorana operators, with its residual.
+// The map that a block makes of the Majorana operators, with its residual: `real::Map2` for one mode,
+// `real::Map4` for two.
 
-use real::{Map2, Map4};
-
-// A map of one mode, and its residual.
 #[derive(Clone, Copy)]
-pub struct Mapped2 {
-    pub q: Map2,
+pub struct Mapped<Q> {
+    pub q: Q,
     pub residual: f64,
 }
 
-// A map of two modes, and its residual.
+// A row of a map, `real::Real2` or `real::Real4`, and its part of the residual, squared.
 #[derive(Clone, Copy)]
-pub struct Mapped4 {
-    pub q: Map4,
-    pub residual: f64,
+pub struct Fitted<Q> {
+    pub q: Q,
+    pub d: f64,
 }

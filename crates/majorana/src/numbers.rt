@@ -1,9 +1,9 @@
 // Whether a map commutes with the particle number.
+
 ghost use Rattle.std.specs.Prelude.{◌≡◌};
 ghost use Rattle.real.specs.Maps.{real4};
 ghost use Rattle.majorana.specs.Numbers.{commutes_j2_of, dot4_of, real_row_mul_of, close_of, close_row_of, commutes_row_of, number_conserving4_of};
 
-use num::both;
 use real::{Map2, Map4, Real4};
 
 // How far apart two entries may be that count as equal.
@@ -46,16 +46,15 @@ const J: Map4 = Map4 {
 };
 
 // The test for a map of one mode: no for a NaN.
+#[tactic(auto, unfolding(crate::specs::Numbers::commutes_j2_of))]
 pub fn commutes_j2(q: Map2) -> bool
     ensures { result ≡ commutes_j2_of q }
 {
-    if num::abs(q.r0.x0 - q.r1.x1) < SLACK {
-        return num::abs(q.r0.x1 + q.r1.x0) < SLACK;
-    }
-    false
+    num::abs(q.r0.x0 - q.r1.x1) < SLACK && num::abs(q.r0.x1 + q.r1.x0) < SLACK
 }
 
 // A row times the column (w, x, y, z).
+#[tactic(auto, unfolding(crate::specs::Numbers::dot4_of))]
 fn dot(row: Real4, w: f64, x: f64, y: f64, z: f64) -> f64
     ensures { result ≡ dot4_of row (real4 w x y z) }
 {
@@ -63,6 +62,7 @@ fn dot(row: Real4, w: f64, x: f64, y: f64, z: f64) -> f64
 }
 
 // A row times a map.
+#[tactic(auto, unfolding(crate::specs::Numbers::real_row_mul_of))]
 fn row_mul(row: Real4, m: Map4) -> Real4
     ensures { result ≡ real_row_mul_of row m }
 {
@@ -74,6 +74,7 @@ fn row_mul(row: Real4, m: Map4) -> Real4
 }
 
 // Whether two numbers are not further apart than 1e-9: a NaN is not.
+#[tactic(auto, unfolding(crate::specs::Numbers::close_of))]
 fn close(a: f64, b: f64) -> bool
     ensures { result ≡ close_of a b }
 {
@@ -81,6 +82,7 @@ fn close(a: f64, b: f64) -> bool
 }
 
 // Whether two rows are close entry by entry.
+#[tactic(auto, unfolding(crate::specs::Numbers::close_row_of))]
 fn close_row(a: Real4, b: Real4) -> bool
     ensures { result ≡ close_row_of a b }
 {
@@ -88,10 +90,11 @@ fn close_row(a: Real4, b: Real4) -> bool
     let c1 = close(a.x1, b.x1);
     let c2 = close(a.x2, b.x2);
     let c3 = close(a.x3, b.x3);
-    both(both(both(c0, c1), c2), c3)
+    c0 & c1 & c2 & c3
 }
 
 // Whether a row of q · J is that of J · q.
+#[tactic(auto, unfolding(crate::specs::Numbers::commutes_row_of))]
 fn commutes_row(q: Map4, row: Real4, j: Real4) -> bool
     ensures { result ≡ commutes_row_of q row j }
 {
@@ -101,6 +104,7 @@ fn commutes_row(q: Map4, row: Real4, j: Real4) -> bool
 }
 
 // The test for a map of two modes: yes for a NaN.
+#[tactic(auto, unfolding(crate::specs::Numbers::number_conserving4_of))]
 pub fn number_conserving4(q: Map4) -> bool
     ensures { result ≡ number_conserving4_of q }
 {
@@ -108,5 +112,5 @@ pub fn number_conserving4(q: Map4) -> bool
     let c1 = commutes_row(q, q.r1, J1);
     let c2 = commutes_row(q, q.r2, J2);
     let c3 = commutes_row(q, q.r3, J3);
-    both(both(both(c0, c1), c2), c3)
+    c0 & c1 & c2 & c3
 }

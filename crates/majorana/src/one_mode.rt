@@ -1,41 +1,17 @@
-// The Majorana map of one mode.
+// The Majorana map of one mode. Its functions stand again for two modes: a row is a struct of its
+// entries by value, so no function is of both sizes.
+
 ghost use Rattle.std.specs.Prelude.{◌≡◌};
 ghost use Rattle.majorana.specs.Majorana.{trace2_of, coefficients2_of, less_row2_of, plus_row2_of, distance2_of, majorana_map1_of};
 ghost use Rattle.majorana.specs.Parts.{re_trace_row2_of, fitted2_of};
 
-use crate::maps::Mapped2;
-use gate::{Complex, Mat2, Row2};
+use crate::maps::{Fitted, Mapped};
+use gate::{Complex, Mat2, Matrix, Row2};
+use named::{X, Y};
 use real::{Map2, Real2};
 
-const ZERO: Complex = Complex { re: 0.0, im: 0.0 };
-
-const ONE: Complex = Complex { re: 1.0, im: 0.0 };
-
-const IMAG: Complex = Complex { re: 0.0, im: 1.0 };
-
-const MINUS_IMAG: Complex = Complex { re: 0.0, im: -1.0 };
-
-const X: Mat2 = Mat2 {
-    r0: Row2 { c0: ZERO, c1: ONE },
-    r1: Row2 { c0: ONE, c1: ZERO },
-};
-
-const Y: Mat2 = Mat2 {
-    r0: Row2 {
-        c0: ZERO,
-        c1: MINUS_IMAG,
-    },
-    r1: Row2 { c0: IMAG, c1: ZERO },
-};
-
-// A row of the map, and its part of the residual, squared.
-#[derive(Clone, Copy)]
-struct Fitted2 {
-    pub q: Real2,
-    pub d: f64,
-}
-
 // The real part of t + a row times the column (x, y).
+#[tactic(auto, unfolding(crate::specs::Parts::re_trace_row2_of))]
 fn trace_row(t: f64, row: Row2, x: Complex, y: Complex) -> f64
     ensures { result ≡ re_trace_row2_of t row x y }
 {
@@ -44,6 +20,7 @@ fn trace_row(t: f64, row: Row2, x: Complex, y: Complex) -> f64
 }
 
 // The real part of the trace of c · w.
+#[tactic(auto, unfolding(crate::specs::Majorana::trace2_of, crate::specs::Majorana::trace_row2_of, crate::specs::Parts::re_trace_row2_of))]
 fn trace(c: Mat2, w: Mat2) -> f64
     ensures { result ≡ (trace2_of c w).re }
 {
@@ -52,6 +29,7 @@ fn trace(c: Mat2, w: Mat2) -> f64
 }
 
 // The coefficients of w in the two operators.
+#[tactic(auto, unfolding(crate::specs::Majorana::coefficients2_of, crate::specs::Majorana::coefficient2_of))]
 fn coefficients(w: Mat2) -> Real2
     ensures { result ≡ coefficients2_of w }
 {
@@ -61,15 +39,17 @@ fn coefficients(w: Mat2) -> Real2
 }
 
 // w - x c, a row of it.
+#[tactic(auto, unfolding(crate::specs::Majorana::less_row2_of))]
 fn less_row(w: Row2, c: Row2, x: f64) -> Row2
     ensures { result ≡ less_row2_of w c x }
 {
-    let c0 = w.c0.sub(c.c0.scale(x));
-    let c1 = w.c1.sub(c.c1.scale(x));
+    let c0 = w.c0 - c.c0.scale(x);
+    let c1 = w.c1 - c.c1.scale(x);
     Row2 { c0, c1 }
 }
 
 // s + the squares of a row's entries.
+#[tactic(auto, unfolding(crate::specs::Majorana::plus_row2_of))]
 fn plus_row(s: f64, row: Row2) -> f64
     ensures { result ≡ plus_row2_of s row }
 {
@@ -88,24 +68,25 @@ fn distance(w: Mat2, q: Real2) -> f64
 }
 
 // The coefficients of w, and what is left of it.
-fn fitted(w: Mat2) -> Fitted2
+#[tactic(auto, unfolding(crate::specs::Parts::fitted2_of))]
+fn fitted(w: Mat2) -> Fitted<Real2>
     ensures { result ≡ fitted2_of w }
 {
     let q = coefficients(w);
     let d = distance(w, q);
-    Fitted2 { q, d }
+    Fitted { q, d }
 }
 
 // The map and its residual. One root is taken, of the larger square.
-pub fn majorana_map1(u: Mat2) -> Mapped2
+pub fn majorana_map1(u: Mat2) -> Mapped<Map2>
     ensures { result ≡ majorana_map1_of u }
 {
-    let ud = gate::dag2(u);
-    let a = fitted(gate::mul2(ud, gate::mul2(X, u)));
-    let b = fitted(gate::mul2(ud, gate::mul2(Y, u)));
+    let ud = u.adjoint();
+    let a = fitted(ud * (X * u));
+    let b = fitted(ud * (Y * u));
     let residual = num::sqrt(num::max(num::max(0.0, a.d), b.d));
     let r0 = a.q;
     let r1 = b.q;
     let q = Map2 { r0, r1 };
-    Mapped2 { q, residual }
+    Mapped { q, residual }
 }

@@ -4,4 +4,4 @@
 
 mod table; // the exact matrices of the named gates, by code
 
-pub use table::{matrix_1q, matrix_2q};
+pub use table::{SWAP, X, Y, matrix_1q, matrix_2q};

@@ -4,11 +4,10 @@ use mathlib.Core.Bool.{true, false, not}
 use Prim.Native.Nat.{ℕ, ◌+◌, ◌%◌, ◌^◌, ◌<◌}
 use native.Mathlib.Omega.{arith}
 use lib.IntN.{ℤ}
-use lib.Dec.{T, ltb, not_T}
-use lib.Ieee.{Float, nan, inf, fin, binary64, fits, is_nan, neg, eq, ne, of_bits, to_bits}
-use lib.Ieee.Bits.{is_false, nan_bits_is, nan_bits_above, of_bits-to_bits, to_bits-lt, to_bits-of_bits}
+use lib.Dec.{T, ltb}
+use lib.Ieee.{Float, nan, inf, fin, binary64, fits, is_nan, neg, of_bits, to_bits}
+use lib.Ieee.Bits.{nan_bits_is, nan_bits_above, of_bits-to_bits, to_bits-lt, to_bits-of_bits}
 use lib.Ieee.Fits.{neg-fits}
-use lib.Ieee.Compare.{differs_from_itself}
 use Rattle.num.specs.Order.{abs_of}
 use Rattle.num.specs.Bits.{inf_bits, bits_of}
 use Rattle.num.proofs.OrderLaws.{abs-fits}
@@ -23,17 +22,6 @@ is-nan (fin s m d) e = cc
 
 pub not-nan : (x : Float) → is_nan x ≡ false → T (not (is_nan x))
 not-nan x e = rw e tt
-
--- a NaN alone differs from itself
-pub ne-self : (x : Float) → ne x x ≡ is_nan x
-unfolding ne eq is_nan
-ne-self nan = refl
-ne-self (inf true) = refl
-ne-self (inf false) = refl
-ne-self (fin s m e) = is_false (ne (fin s m e) (fin s m e)) (not_T (ne (fin s m e) (fin s m e)) (λ u. no (differs_from_itself (fin s m e) u)))
-  where
-    no : fin s m e ≡ nan → ⊥
-    no p = let z : ◌≡◌ {A = ℕ} 0 1 = cc in omega arith
 
 -- the patterns of a NaN lie above the infinity's, the sign aside
 pub nan-test : (b : ℕ) → is_nan (of_bits binary64 b) ≡ ltb inf_bits (b % 2 ^ 63)

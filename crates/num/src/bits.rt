@@ -2,8 +2,8 @@
 
 ghost use Rattle.std.specs.Prelude.{◌≡◌, ◌+◌, ◌^◌, ◌≤◌, ◌<◌, length};
 ghost use Rattle.std.specs.Float.{binary64};
-ghost use Rattle.std.specs.Float.Ieee.{is_nan, of_bits};
-ghost use Rattle.num.specs.Bits.{le16, le32, le64, f64_at, bits_of};
+ghost use Rattle.std.specs.Float.Ieee.{of_bits};
+ghost use Rattle.num.specs.Bits.{le16, le64, f64_at, bits_of};
 
 pub const SIGN: u64 = 1 << 63; // the weight of the sign bit
 
@@ -11,14 +11,8 @@ pub const INFINITY: u64 = 0x7ff0_0000_0000_0000; // the pattern of the infinity
 
 const QUIET_NAN: u64 = 0x7ff8_0000_0000_0000; // the pattern that stands for every NaN
 
-// Rust's `is_nan`.
-pub fn is_nan(x: f64) -> bool
-    ensures { result ≡ is_nan x }
-{
-    x != x
-}
-
-// Rust's `from_bits`. There is one NaN, and it is made here, whatever its pattern was.
+// Rust's `from_bits`, which the library has for no pattern of a NaN: there is one NaN, and it is
+// made here, whatever its pattern was.
 pub fn from_bits(b: u64) -> f64
     ensures { result ≡ of_bits binary64 b }
 {
@@ -28,21 +22,15 @@ pub fn from_bits(b: u64) -> f64
     f64::from_bits(b)
 }
 
-// Rust's `to_bits`, but for a NaN: it always gets the same pattern.
+// Rust's `to_bits`, but for a NaN, which the library's refuses: it always gets the same pattern.
+#[tactic(auto, unfolding(crate::specs::Bits::bits_of))]
 pub fn to_bits(x: f64) -> u64
     ensures { result ≡ bits_of x }
 {
-    if is_nan(x) {
+    if x.is_nan() {
         return QUIET_NAN;
     }
-    f64::to_bits(x)
-}
-
-// A byte, with its bound, for the sums below.
-fn wide(x: u8) -> u64
-    ensures { (result ≡ x) × (result < 2 ^ 8) }
-{
-    x as u64
+    x.to_bits()
 }
 
 // The number in the 2 bytes from `at` on, the lowest first.
@@ -51,20 +39,7 @@ pub fn u16_at(s: &[u8], at: usize) -> u64
     ensures value { result ≡ le16 s.now at }
     ensures bound { result < 2 ^ 16 }
 {
-    let low = wide(s[at]);
-    let high = wide(s[at + 1]);
-    low + 0x100 * high
-}
-
-// The number in 4 bytes.
-fn u32_at(s: &[u8], at: usize) -> u64
-    requires { at + 4 ≤ length s.now }
-    ensures value { result ≡ le32 s.now at }
-    ensures bound { result < 2 ^ 32 }
-{
-    let low = u16_at(s, at);
-    let high = u16_at(s, at + 2);
-    low + 0x1_0000 * high
+    u64::from(u16::from_le_bytes([s[at], s[at + 1]]))
 }
 
 // The number in 8 bytes.
@@ -73,9 +48,16 @@ pub fn u64_at(s: &[u8], at: usize) -> u64
     ensures value { result ≡ le64 s.now at }
     ensures bound { result < 2 ^ 64 }
 {
-    let low = u32_at(s, at);
-    let high = u32_at(s, at + 4);
-    low + 0x1_0000_0000 * high
+    u64::from_le_bytes([
+        s[at],
+        s[at + 1],
+        s[at + 2],
+        s[at + 3],
+        s[at + 4],
+        s[at + 5],
+        s[at + 6],
+        s[at + 7],
+    ])
 }
 
 // The f64 in 8 bytes.

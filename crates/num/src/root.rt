@@ -1,8 +1,9 @@
-// The square root of an f64 from its bits: the f64 nearest the exact root. A guess made in floats is
-// tested exactly, in whole numbers, and moved by one where it has to be. Nothing is proved of the
-// guess itself: were it further off, the root would be worked out digit by digit.
+// The square root of an f64 from its bits, of the project's own (docs/DECISIONS.md): the f64 nearest
+// the exact root. A guess made in floats is tested exactly, in whole numbers, and moved by one where
+// it has to be. Nothing is proved of the guess itself: were it further off, the root would be worked
+// out digit by digit.
 
-ghost use Rattle.std.specs.Prelude.{◌≡◌, ◌+◌, ◌*◌, ◌^◌, ◌≤◌, ◌<◌};
+ghost use Rattle.std.specs.Prelude.{◌≡◌, ◌+◌, ◌*◌, ◌^◌, ◌≤◌, ◌<◌, IfSome};
 ghost use Rattle.num.specs.Root.{RootOf, sqrt_of};
 ghost use Rattle.num.specs.Bits.{inf_bits};
 ghost use Rattle.num.specs.Parts.{Moved, PartsOf, WholeRoot, Evened, SquareOf, Rounded, RootBits};
@@ -41,13 +42,8 @@ fn normalise(t: u64) -> Norm
     requires { (0 < t) × (t < 2 ^ 53) }
     ensures { Moved t result.m result.s }
 {
-    let mut m = t;
-    let mut s: u64 = 0;
-    while m < TWO_52 {
-        m = m * 2;
-        s += 1;
-    }
-    Norm { m, s }
+    let s = u64::from(52 - t.ilog2());
+    Norm { m: t << s, s }
 }
 
 // m, or twice m where u is odd.
@@ -67,8 +63,7 @@ fn whole_root(a: u64) -> u64
     let mut top = a;
     let mut rem: u64 = 0;
     let mut q: u64 = 0;
-    let mut i: u64 = 0;
-    while i < 54 {
+    for turn in 0..54u32 {
         let d = rem * 4 + top / TWO_52;
         let t = q * 4 + 1;
         top = top % TWO_52 * 4;
@@ -79,7 +74,6 @@ fn whole_root(a: u64) -> u64
             rem = d;
             q = q * 2;
         }
-        i += 1;
     }
     q
 }
@@ -92,14 +86,14 @@ fn by_digits(a: u64) -> u64
     (whole_root(a) + 1) / 2
 }
 
-// k * 2^52 + low.
+// k * 2^52 + low: two words in place of one twice as wide.
 #[derive(Clone, Copy)]
 struct Square {
     k: u64,
     low: u64,
 }
 
-// r * r, which one u64 does not hold.
+// r * r, which one word does not hold.
 fn square_of(r: u64) -> Square
     requires { r ≤ 2 ^ 53 }
     ensures { SquareOf r result.k result.low }
@@ -113,35 +107,35 @@ fn square_of(r: u64) -> Square
     }
 }
 
-// r, r - 1 or r + 1, whichever is nearest the root of a * 2^52; 0 if none of them is. k and low are
-// r's square, and a * 2^52 - r * r is d - z.
-fn adjusted(a: u64, r: u64, k: u64, low: u64) -> u64
+// r, r - 1 or r + 1, whichever is nearest the root of a * 2^52, if one of them is. k and low are r's
+// square, and a * 2^52 - r * r is d - z.
+fn adjusted(a: u64, r: u64, k: u64, low: u64) -> Option<u64>
     requires a_bound { (a < 2 ^ 54) × (2 ^ 52 ≤ r) × (r ≤ 2 ^ 53) }
     requires square_of { SquareOf r k low }
-    ensures { 0 < result → Rounded a result }
+    ensures { IfSome result (λ x. Rounded a x) }
 {
     if a + SLACK < k {
-        return 0;
+        return None;
     }
     let t = a + SLACK - k;
     if t > 2 * SLACK {
-        return 0;
+        return None;
     }
     let d = t * TWO_52;
     let z = low + SLACK * TWO_52;
     if d <= z + r {
         if z < d + r {
-            return r;
+            return Some(r);
         }
         if z + 2 < d + 3 * r {
-            return r - 1;
+            return Some(r - 1);
         }
-        return 0;
+        return None;
     }
     if d <= z + 3 * r + 2 {
-        return r + 1;
+        return Some(r + 1);
     }
-    0
+    None
 }
 
 // Near √v for v from 1 to 2: within 1 in 14,000, by a polynomial.
@@ -176,10 +170,9 @@ fn nearest(a: u64, guess: f64) -> u64
     ensures { Rounded a result }
 {
     if guess > 0.0 {
-        let r = f64::to_bits(guess) % TWO_52 + TWO_52;
+        let r = guess.to_bits() % TWO_52 + TWO_52;
         let s = square_of(r);
-        let x = adjusted(a, r, s.k, s.low);
-        if x > 0 {
+        if let Some(x) = adjusted(a, r, s.k, s.low) {
             return x;
         }
     }
@@ -231,7 +224,7 @@ pub fn sqrt(x: f64) -> f64
     ensures value { result ≡ sqrt_of x }
 {
     if x > 0.0 {
-        let b = f64::to_bits(x);
+        let b = x.to_bits();
         if b < INFINITY {
             return f64::from_bits(root_bits(b));
         }

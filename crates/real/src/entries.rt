@@ -1,7 +1,7 @@
-// The entries of a dim by dim matrix that a slice holds by rows, and the first places of a slice made one number.
+// The entries of a dim by dim matrix that a lent slice holds by rows. Slice and dimension are no struct:
+// crates/pfaffian/src/lib.rt says why.
 
 ghost use Rattle.std.specs.Prelude.{◌≡◌, ◌+◌, ◌*◌, ◌≤◌, length, set};
-ghost use Rattle.laws.specs.Slices.{filled};
 ghost use Rattle.laws.specs.Matrix.{at, Inside};
 
 // The entry in row r and column c.
@@ -18,16 +18,4 @@ pub fn put(m: &mut [f64], dim: usize, r: usize, c: usize, x: f64)
     ensures { m.new ≡ set m.old (r * dim + c) x }
 {
     m[r * dim + c] = x;
-}
-
-// The first n places are x.
-pub fn fill(v: &mut [f64], n: usize, x: f64)
-    requires { n ≤ length v.old }
-    ensures { v.new ≡ filled n x v.old }
-{
-    let mut i = 0;
-    while i < n {
-        v[i] = x;
-        i += 1;
-    }
 }

@@ -1,4 +1,5 @@
-// Real maps of Majorana operators by value, as structs of rows: 2 by 2 for one mode, 4 by 4 for two.
+// Real maps of Majorana operators by value, as structs of rows, the form that docs/DECISIONS.md names:
+// 2 by 2 for one mode, 4 by 4 for two.
 
 // A row of a 2 by 2.
 #[derive(Clone, Copy)]

@@ -1,28 +1,37 @@
--- What one turn of the loops of `normalise` and `whole_root` does, on whole numbers. Assumes nothing.
-use mathlib.Core.Path.{◌≡◌, sym, ap, ◌∙◌, subst}
+-- What `normalise` and one turn of the loop of `whole_root` do, on whole numbers. Assumes nothing.
+use mathlib.Core.Path.{◌≡◌, refl, sym, ap, ◌∙◌, subst}
 use Prim.Native.Nat.{ℕ, ◌+◌, ◌-◌, ◌*◌, ◌/◌, ◌%◌, ◌^◌, ◌≤◌, ◌<◌}
-use native.Mathlib.Nat.{le_trans, le_of_eq, lt_of_lt_of_le, lt_of_not-le, not-le_of_lt, one-mul, mul-one, mul_assoc, mul_comm, mul_left_comm, mul-le-mul_right, pow-succ', pow-suc}
+use native.Mathlib.Nat.{le_trans, lt_of_lt_of_le, lt_of_not-le, not-le_of_lt, mul-one, mul_assoc, mul_comm, mul_left_comm, mul-le-mul_right, mul-lt-mul_of_pos_right, mod-eq_of_lt, pow-succ'}
 use native.Mathlib.Numerals.{add-one}
 use native.Mathlib.Omega.{arith}
-use lib.Pow.{pow_mono}
-use Rattle.num.specs.Parts.{WholeRoot}
+use lib.Pow.{pow_mono, pow_pos, pow-add}
+use Rattle.num.specs.Parts.{Moved, WholeRoot}
 use Rattle.num.proofs.Squares.{sq-mul, sq-next, odd-sq}
 
--- ---- `normalise`
+-- ---- `normalise`: the leading digit of t stands at the place k, and is moved up to 52
 
--- t is above 0, so t * 2 ^ s is 2 ^ s or more
-pub few : (t m s : ℕ) → 0 < t → m ≡ t * 2 ^ s → m < 2 ^ 52 → s < 52
-few t m s p e h =
-    lt_of_not-le
-    (λ (g : 52 ≤ s).
-    not-le_of_lt h
-    (le_trans (pow_mono g) (le_trans (le_of_eq (sym (one-mul (2 ^ s)))) (le_trans (mul-le-mul_right (2 ^ s) p) (le_of_eq (sym e))))))
+pub top-place : (t k : ℕ) → t < 2 ^ 53 → 2 ^ k ≤ t → k ≤ 52
+top-place t k h low = below k (lt_of_not-le (λ (g : 53 ≤ k). not-le_of_lt h (le_trans (pow_mono g) low)))
+  where
+    below : (k : ℕ) → k < 53 → k ≤ 52
+    below k h = omega arith
 
-pub doubled : (t m s : ℕ) → m ≡ t * 2 ^ s → m * 2 ≡ t * 2 ^ (s + 1)
-doubled t m s e =
-    ap (λ (z : ℕ). z * 2) e
-    ∙ mul_assoc t (2 ^ s) 2
-    ∙ ap (λ (z : ℕ). t * z) (sym (pow-suc 2 s) ∙ ap (λ (z : ℕ). 2 ^ z) (sym (add-one s)))
+pub moved : (t k s : ℕ) → 2 ^ k ≤ t → t < 2 * 2 ^ k → k + s ≡ 52 → Moved t (t * 2 ^ s % 2 ^ 64) s
+moved t k s low high e = subst (λ m. Moved t m s) (sym (mod-eq_of_lt (fits (t * 2 ^ s) under))) (record {
+  is = refl;
+  high = subst (λ z. z ≤ t * 2 ^ s) whole (mul-le-mul_right (2 ^ s) low);
+  short = under;
+  few = omega arith;
+})
+  where
+    whole : 2 ^ k * 2 ^ s ≡ 2 ^ 52
+    whole = sym (pow-add 2 k s) ∙ ap (λ (z : ℕ). 2 ^ z) e
+
+    under : t * 2 ^ s < 2 ^ 53
+    under = subst (λ z. t * 2 ^ s < z) (mul_assoc 2 (2 ^ k) (2 ^ s) ∙ ap (λ (z : ℕ). 2 * z) whole) (mul-lt-mul_of_pos_right high (pow_pos s))
+
+    fits : (v : ℕ) → v < 2 ^ 53 → v < 2 ^ 64
+    fits v h = omega arith
 
 -- ---- `whole_root`
 

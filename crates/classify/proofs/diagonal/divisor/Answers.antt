@@ -8,6 +8,6 @@ pub returns-then-r : goal.returns-then-r
 unfolding divisor_of
 returns-then-r c = rw (c.if-r.true, below-infinity c.args.r c.if-r.true)
 
-pub returns : goal.returns
+pub returns-else-r : goal.returns-else-r
 unfolding divisor_of
-returns c = rw c.if-r.false
+returns-else-r c = rw c.if-r.false

@@ -1,8 +1,8 @@
--- `num::bits::u16_at` meets its contract. Assumes nothing.
-use borrow.Author.Rules.{rules}
+-- `num::bits::u16_at` meets its contract: the two bytes by their weights. Assumes nothing.
+use native.Mathlib.Omega.{arith}
 use Rattle.num.specs.Bits.{le16}
 use Rattle.num.proofs.bits.u16_at.Goals as goal
 
-pub returns : goal.returns
+pub returns-clause-value : goal.returns-clause-value
 unfolding le16
-returns c = search rules
+returns-clause-value c = omega (arith, c.from.ensures, c.from_le_bytes.ensures)

@@ -14,10 +14,10 @@ held : (c : Start) → T (fits binary64 c.args.x)
 held c = subst T (sym c.well_formed.0.1) tt
 
 number : (c : Else-is_nan) → is_nan c.args.x ≡ false
-number c = sym c.is_nan.ensures ∙ c.if-is_nan.false
+number c = sym c.is_nan.ensures.value ∙ c.if-is_nan.false
 
 pub returns-then-is_nan : goal.returns-then-is_nan
-returns-then-is_nan c = abs-nan _ (sym c.is_nan.ensures ∙ c.if-is_nan.true)
+returns-then-is_nan c = abs-nan _ (sym c.is_nan.ensures.value ∙ c.if-is_nan.true)
 
 pub float_to_bits-result : goal.float_to_bits-result
 float_to_bits-result c = not-nan _ (number c)

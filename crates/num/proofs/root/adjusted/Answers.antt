@@ -15,10 +15,10 @@ split c =
     apart s.args.a s.args.r s.args.k s.args.low s.requires.square_of c.if-a-k.false
 
 pub returns-then-z-d : goal.returns-then-z-d
-returns-then-z-d c p = itself _ _ _ _ (split c.before.before.before) p c.if-d-z.true c.if-z-d.true
+returns-then-z-d c = itself _ _ _ _ (split c.before.before.before) (omega arith) c.if-d-z.true c.if-z-d.true
 
 pub returns-then-z-d-2 : goal.returns-then-z-d-2
-returns-then-z-d-2 c p = less_one _ _ _ _ (split c.before.before.before.before) (omega arith) c.if-z-d.false c.if-z-d-2.true
+returns-then-z-d-2 c = less_one _ _ _ _ (split c.before.before.before.before) (omega arith) c.if-z-d.false c.if-z-d-2.true
 
 pub returns-then-d-z-2 : goal.returns-then-d-z-2
-returns-then-d-z-2 c p = one_more _ _ _ _ (split c.before.before.before) c.if-d-z.false c.if-d-z-2.true
+returns-then-d-z-2 c = one_more _ _ _ _ (split c.before.before.before) c.if-d-z.false c.if-d-z-2.true
