@@ -2,10 +2,10 @@
 -- the rows after the columns. Assumes nothing.
 use mathlib.Core.Path.{◌≡◌, refl, sym, ap, ◌∙◌}
 use mathlib.Core.Logic.{◌⊎◌, inl, inr, ◌≢◌}
-use mathlib.Core.Bool.{Bool, true, false, cond, ◌&&◌, ◌||◌, false≢true}
+use mathlib.Core.Bool.{Bool, true, false, cond, ◌&&◌, ◌||◌, false≢true, true≢false}
 use mathlib.Core.List.{List}
 use Prim.Native.Nat.{ℕ, ◌+◌, ◌*◌, ◌-◌, ◌≤◌, ◌<◌}
-use native.Mathlib.Nat.{le_refl, le_of_eq, add-zero}
+use native.Mathlib.Nat.{le_refl, le_of_eq, add-zero, add_assoc}
 use native.Mathlib.Omega.{arith}
 use lib.Dec.{eqb}
 use lib.ListN.{length, get_or, set, length-set}
@@ -26,6 +26,11 @@ use Rattle.laws.proofs.Columns.{entry_more}
 use Rattle.local.specs.Bounds.{state_places}
 use Rattle.local.specs.State.{State, state_at, stored, Stored}
 use Rattle.local.specs.Apply.{unsettled, calm}
+use Rattle.std.proofs.lemmas.List.Folds.{list_any_at}
+use Rattle.std.proofs.lemmas.List.{get_or-take, get_or-drop, length-take-le, length-drop}
+use lib.ListN.{take, drop}
+use Rattle.local.specs.Parts.{any_below}
+use Rattle.local.specs.declared.signs.Below.{Below}
 use Rattle.local.specs.Parts.{Below4, band, settled_state, rows_settled, columns_settled, part_settled, row_negated, settled_row, settled_entry}
 use Rattle.local.proofs.Stored.{same, alike_is, stored_is, is-stored}
 
@@ -113,6 +118,27 @@ none_of_four f e =
     (none_more f 2
     (none_more f 1 (none_more f 0 (λ i h. absurd (omega arith)) (or_left (f 0) (f 1 || (f 2 || f 3)) e)) (or_left (f 1) (f 2 || f 3) e₁))
     (or_left (f 2) (f 3) e₂)) (or_right (f 2) (f 3) e₂)
+
+-- none of the k signs from s on, as a part of the slice
+pub none_below : (dim s k : ℕ) (v : List Float) → state_places dim ≤ length v → s + k ≤ dim
+    → any_below (take (dim * dim + s + k - (dim * dim + s)) (drop (dim * dim + s) v)) ≡ false
+    → (i : ℕ) → i < k → lt (get_or v (dim * dim + (s + i)) nan) +0 ≡ false
+none_below dim s k v room b e i h = by (lt (get_or v (dim * dim + (s + i)) nan) +0) refl
+  where
+    part : List Float
+    part = take (dim * dim + s + k - (dim * dim + s)) (drop (dim * dim + s) v)
+
+    long : length part ≡ k
+    long = length-take-le _ _ (omega (arith, room, length-drop (dim * dim + s) v)) ∙ omega arith
+
+    here : get_or part i nan ≡ get_or v (dim * dim + (s + i)) nan
+    here =
+        get_or-take _ _ i nan (omega arith) ∙ get_or-drop (dim * dim + s) v i nan
+        ∙ ap (λ n. get_or v n nan) (add_assoc (dim * dim) s i)
+
+    by : (t : Bool) → lt (get_or v (dim * dim + (s + i)) nan) +0 ≡ t → lt (get_or v (dim * dim + (s + i)) nan) +0 ≡ false
+    by false q = q
+    by true q = absurd (true≢false (sym (list_any_at (λ x. lt x +0) part i nan (omega (arith, long)) (ap (λ x. lt x +0) here ∙ q)) ∙ e))
 
 pub settled-none : (dim s k : ℕ) (v : List Float) → state_places dim ≤ length v → ((i : ℕ) → i < k → lt (get_or v (dim * dim + (s + i)) nan) +0 ≡ false)
     → v ≡ stored dim (settled_state (band s k) (state_at dim v)) v
@@ -343,9 +369,8 @@ columns-more dim s k n m₀ m m' h room fit w e = more by_row new (at dim m₀) 
         ∙ (λ t. sg (mark x b t) ((w.each r x a b ∙ up_left by_row new (at dim m₀) n r x (le_of_eq (sym q))) t))
 
 -- the signs are still those of the start
-pub signs-kept : (dim s n : ℕ) (b0 b1 b2 b3 : Bool) (m₀ m : List Float) → ColumnsTo dim s 4 m₀ n m → Below4 m₀ dim s b0 b1 b2 b3
-    → Below4 m dim s b0 b1 b2 b3
-signs-kept dim s n b0 b1 b2 b3 m₀ m w b = record {
+pub signs-kept : (dim s n : ℕ) (signs : Below) (m₀ m : List Float) → ColumnsTo dim s 4 m₀ n m → Below4 m₀ dim s signs → Below4 m dim s signs
+signs-kept dim s n signs m₀ m w b = record {
   first = b.first ∙ kept s;
   second = b.second ∙ kept (s + 1);
   third = b.third ∙ kept (s + 2);

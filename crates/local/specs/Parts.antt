@@ -1,6 +1,7 @@
 -- What the inner functions ask and give: rows of three and two numbers in the determinant, one index settled, a column read as a struct.
 -- Definitions only. Only inner functions rest on this.
 use Rattle.std.specs.Prelude.{◌≡◌, Bool, cond, ◌&&◌, List, [], ◌∷◌, ℕ, ◌+◌, ◌*◌, ◌≤◌, ◌<◌, eqb, get_or, length, set, Float}
+use Rattle.std.specs.List.{list_any}
 use Rattle.std.specs.Float.{nan}
 use Rattle.std.specs.Float.Ieee.{neg, lt}
 use Rattle.laws.specs.Zeros.{+0, +1, sg}
@@ -16,6 +17,7 @@ use Rattle.local.specs.State.{State}
 use Rattle.local.specs.Apply.{unsettled, settled, calm}
 use Rattle.local.specs.Det.{Line}
 use Rattle.local.specs.declared.det.Real3.{Real3}
+use Rattle.local.specs.declared.signs.Below.{Below}
 
 -- ---- what they ask
 
@@ -30,11 +32,15 @@ pub record HasBand (s : List Float) (dim start k : ℕ) : Type 0 where
   pub band : start + k ≤ dim
 
 -- which of the four signs from start on are below zero
-pub record Below4 (s : List Float) (dim start : ℕ) (b0 b1 b2 b3 : Bool) : Type 0 where
-  pub first : b0 ≡ lt (get_or s (dim * dim + start) nan) +0
-  pub second : b1 ≡ lt (get_or s (dim * dim + (start + 1)) nan) +0
-  pub third : b2 ≡ lt (get_or s (dim * dim + (start + 2)) nan) +0
-  pub fourth : b3 ≡ lt (get_or s (dim * dim + (start + 3)) nan) +0
+pub record Below4 (s : List Float) (dim start : ℕ) (b : Below) : Type 0 where
+  pub first : b.x0 ≡ lt (get_or s (dim * dim + start) nan) +0
+  pub second : b.x1 ≡ lt (get_or s (dim * dim + (start + 1)) nan) +0
+  pub third : b.x2 ≡ lt (get_or s (dim * dim + (start + 2)) nan) +0
+  pub fourth : b.x3 ≡ lt (get_or s (dim * dim + (start + 3)) nan) +0
+
+-- one of the signs is below zero
+abbrev pub any_below : List Float → Bool
+any_below = list_any (λ x. lt x +0)
 
 -- ---- lines of the determinant
 

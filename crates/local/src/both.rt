@@ -1,6 +1,7 @@
 // Both steps of 001's `apply_local` under a map of one mode, in one loop. Each row's part lies on a line of the cache by
 // itself: where only such parts are read and stored, the processor asks for more lines at once than fit into the few sets
-// on which rows of 2,048 bytes fall, and n = 128 takes twice as long.
+// on which rows of 2,048 bytes fall, and n = 128 takes twice as long. Its functions have a twin for four indices, in place of a const for the size:
+// rows are structs of floats by value, and a map of two modes goes row by row and column by column, in two loops.
 
 ghost use Rattle.std.specs.Prelude.{◌≡◌, ◌+◌, ◌*◌, ◌<◌, set};
 ghost use Rattle.laws.specs.Matrix.{at, matrix, Holds};
@@ -72,12 +73,10 @@ pub fn both2(m: &mut [f64], n: usize, mode: usize, q: Map2)
 {
     let dim = 2 * n;
     let s = 2 * mode;
-    let mut t = 0;
-    while t < n {
+    for t in 0..n {
         let k = 2 * t;
         map_columns2(m, dim, s, k, q);
         map_row2(m, dim, s, k, q);
         map_row2(m, dim, s, k + 1, q);
-        t += 1;
     }
 }

@@ -1,4 +1,5 @@
 // The columns step of 001's `apply_local`: each row's middle part is lent on and put under the map there.
+// Two and four wide are two functions each, in place of a const for the width: maps and rows are structs of floats by value.
 
 ghost use Rattle.std.specs.Prelude.{◌≡◌, ◌<◌, length};
 ghost use Rattle.laws.specs.Matrix.{at, matrix, Holds};
@@ -79,9 +80,7 @@ pub fn columns4(m: &mut [f64], dim: usize, s: usize, q: Map4)
     requires { Holds m.old dim s 4 }
     ensures { m.new ≡ matrix dim (cols (local4 s q) (at dim m.old)) m.old }
 {
-    let mut r = 0;
-    while r < dim {
+    for r in 0..dim {
         map_row4(m, dim, s, r, q);
-        r += 1;
     }
 }

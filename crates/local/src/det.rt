@@ -1,5 +1,6 @@
 // 001's `det`: of a 4 by 4 map by elimination, with the last largest pivot. The first row and the
-// pivot row change places, and what is left of the other rows gets one column shorter.
+// pivot row change places, and what is left of the other rows gets one column shorter. Each length of a row
+// has its own functions, in place of a const for the length: rows are structs of floats by value.
 
 ghost use Rattle.std.specs.Prelude.{◌≡◌, [], ◌∷◌};
 ghost use Rattle.real.specs.Maps.{entry2, entry4};
@@ -19,13 +20,8 @@ pub struct Real3 {
 fn not_below(x: f64, y: f64) -> bool
     ensures { result ≡ not_below x y }
 {
-    if num::is_nan(x) {
-        return true;
-    }
-    if num::is_nan(y) {
-        return false; // so that `abs` need not look for one
-    }
-    num::abs(y) <= num::abs(x)
+    // no NaN gets to `abs`, which need not look for one
+    x.is_nan() || !y.is_nan() && num::abs(y) <= num::abs(x)
 }
 
 // The best pivot row so far.
@@ -35,20 +31,23 @@ pub struct Best {
     pub head: f64,
 }
 
-fn first(x: f64) -> Best
-    ensures { result ≡ record { row = 0; head = x } }
-{
-    Best { row: 0, head: x }
-}
-
-// Row i, with head x, after the best so far: of two equal ones the later.
-fn better(b: Best, i: usize, x: f64) -> Best
-    ensures { result ≡ better_of b i x }
-{
-    if not_below(x, b.head) {
-        return Best { row: i, head: x };
+impl Best {
+    // Row 0, with head x.
+    fn first(x: f64) -> Best
+        ensures { result ≡ record { row = 0; head = x } }
+    {
+        Best { row: 0, head: x }
     }
-    b
+
+    // Row i, with head x, after the best so far: of two equal ones the later.
+    fn or(self, i: usize, x: f64) -> Best
+        ensures { result ≡ better_of self i x }
+    {
+        if not_below(x, self.head) {
+            return Best { row: i, head: x };
+        }
+        self
+    }
 }
 
 // The row r less its part of the pivot row q.
@@ -102,12 +101,10 @@ fn below2(q: Real2, a: Real2, d: f64) -> f64
 fn pivot2(a: Real2, b: Real2, d: f64) -> f64
     ensures { result ≡ eliminated 2 (line2 a ∷ line2 b ∷ []) d }
 {
-    let best = better(first(a.x0), 1, b.x0);
-    let p = best.row;
-    if p == 0 {
-        return below2(a, b, d);
+    match Best::first(a.x0).or(1, b.x0).row {
+        0 => below2(a, b, d),
+        _ => below2(b, a, -d),
     }
-    below2(b, a, -d)
 }
 
 fn below3(q: Real3, a: Real3, b: Real3, d: f64) -> f64
@@ -122,15 +119,11 @@ fn below3(q: Real3, a: Real3, b: Real3, d: f64) -> f64
 fn pivot3(a: Real3, b: Real3, c: Real3, d: f64) -> f64
     ensures { result ≡ eliminated 3 (line3 a ∷ line3 b ∷ line3 c ∷ []) d }
 {
-    let best = better(better(first(a.x0), 1, b.x0), 2, c.x0);
-    let p = best.row;
-    if p == 0 {
-        return below3(a, b, c, d);
+    match Best::first(a.x0).or(1, b.x0).or(2, c.x0).row {
+        0 => below3(a, b, c, d),
+        1 => below3(b, a, c, -d),
+        _ => below3(c, b, a, -d),
     }
-    if p == 1 {
-        return below3(b, a, c, -d);
-    }
-    below3(c, b, a, -d)
 }
 
 fn below4(q: Real4, a: Real4, b: Real4, c: Real4, d: f64) -> f64
@@ -145,22 +138,16 @@ fn below4(q: Real4, a: Real4, b: Real4, c: Real4, d: f64) -> f64
 pub fn det4(q: Map4) -> f64
     ensures { result ≡ det 4 (entry4 q) }
 {
-    let best = better(
-        better(better(first(q.r0.x0), 1, q.r1.x0), 2, q.r2.x0),
-        3,
-        q.r3.x0,
-    );
-    let p = best.row;
-    if p == 0 {
-        return below4(q.r0, q.r1, q.r2, q.r3, 1.0);
+    let best = Best::first(q.r0.x0)
+        .or(1, q.r1.x0)
+        .or(2, q.r2.x0)
+        .or(3, q.r3.x0);
+    match best.row {
+        0 => below4(q.r0, q.r1, q.r2, q.r3, 1.0),
+        1 => below4(q.r1, q.r0, q.r2, q.r3, -1.0),
+        2 => below4(q.r2, q.r1, q.r0, q.r3, -1.0),
+        _ => below4(q.r3, q.r1, q.r2, q.r0, -1.0),
     }
-    if p == 1 {
-        return below4(q.r1, q.r0, q.r2, q.r3, -1.0);
-    }
-    if p == 2 {
-        return below4(q.r2, q.r1, q.r0, q.r3, -1.0);
-    }
-    below4(q.r3, q.r1, q.r2, q.r0, -1.0)
 }
 
 pub fn det2(q: Map2) -> f64

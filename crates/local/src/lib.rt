@@ -1,5 +1,6 @@
 // A map applied to the state, 001's `apply_local` with its `det`: the covariance m on the map's rows and columns,
-// and the postponed signs d, settled on its own rows and turned for all later modes.
+// and the postponed signs d, settled on its own rows and turned for all later modes. Maps of one and of two modes have each their own functions,
+// since maps and rows are structs of floats by value, of two sizes, and the loops of each size are laid out for the compiler in their own way.
 
 #![tactic(auto)]
 

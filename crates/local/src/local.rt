@@ -1,5 +1,6 @@
 // A map applied to the state: 001's `apply_local`, two and four wide. m becomes Q m Qᵀ on the map's
-// indices, and where the determinant is below zero the sign of every later index turns.
+// indices, and where the determinant is below zero the sign of every later index turns. Two functions in place
+// of a const for the width: the steps of the two differ, as both.rt, rows.rt and columns.rt say.
 
 ghost use Rattle.std.specs.Prelude.{◌≡◌, ◌*◌};
 ghost use Rattle.real.specs.Maps.{local2, local4};

@@ -1,4 +1,5 @@
-// The rows step of 001's `apply_local` under a map of two modes, column by column.
+// The rows step of 001's `apply_local` under a map of two modes, column by column. That of one mode has functions of its own (both.rt), in place
+// of a const for the width: maps and rows are structs of floats by value.
 
 ghost use Rattle.std.specs.Prelude.{◌≡◌, ◌<◌};
 ghost use Rattle.laws.specs.Matrix.{at, put_column, matrix, Holds};
@@ -49,10 +50,8 @@ pub fn rows4(m: &mut [f64], dim: usize, s: usize, q: Map4)
     requires { Holds m.old dim s 4 }
     ensures { m.new ≡ matrix dim (rows (local4 s q) (at dim m.old)) m.old }
 {
-    let mut c = 0;
-    while c < dim {
+    for c in 0..dim {
         let v = column4(m, dim, s, c);
         put_column4(m, dim, s, c, mapped4(q, v));
-        c += 1;
     }
 }

@@ -1,13 +1,14 @@
-// The signs d, which stand after the matrix: settled on a map's own rows, turned for all later modes.
+// The signs d, which stand after the matrix: settled on a map's own rows, turned for all later modes. Four wide has
+// functions of its own, in place of a const for the width: they read the four signs before the matrix, as is said there.
 
-ghost use Rattle.std.specs.Prelude.{◌≡◌, map, ◌||◌, ◌+◌, ◌*◌, ◌-◌, ◌<◌, set, get_or};
+ghost use Rattle.std.specs.Prelude.{◌≡◌, map, ◌+◌, ◌*◌, ◌-◌, ◌<◌, set, get_or};
 ghost use Rattle.std.specs.Float.{nan};
 ghost use Rattle.std.specs.Float.Ieee.{neg, lt};
 ghost use Rattle.laws.specs.Zeros.{+0};
 ghost use Rattle.laws.specs.Slices.{on_part};
 ghost use Rattle.laws.specs.Matrix.{at, matrix, Inside};
 ghost use Rattle.local.specs.State.{state_at, stored};
-ghost use Rattle.local.specs.Parts.{HasSign, HasBand, Below4, band, settled_state};
+ghost use Rattle.local.specs.Parts.{any_below, HasSign, HasBand, Below4, band, settled_state};
 ghost use Rattle.local.specs.Parts.{row_negated, settled_row, rows_settled, settled_entry, part_settled, columns_settled};
 
 use real::{entry, put};
@@ -25,10 +26,8 @@ fn negate_row(m: &mut [f64], dim: usize, i: usize)
     requires { Inside m.old dim i i }
     ensures { m.new ≡ matrix dim (row_negated i (at dim m.old)) m.old }
 {
-    let mut c = 0;
-    while c < dim {
+    for c in 0..dim {
         negate(m, dim, i, c);
-        c += 1;
     }
 }
 
@@ -49,10 +48,8 @@ fn settle_rows(state: &mut [f64], dim: usize, s: usize, k: usize)
     requires { HasBand state.old dim s k }
     ensures { state.new ≡ stored dim (rows_settled (band s k) (state_at dim state.old)) state.old }
 {
-    let mut j = 0;
-    while j < k {
+    for j in 0..k {
         settle_row(state, dim, s + j);
-        j += 1;
     }
 }
 
@@ -68,26 +65,16 @@ fn settle_where(state: &mut [f64], dim: usize, r: usize, i: usize, below: bool)
     }
 }
 
-// The same by the sign itself.
-fn settle_entry(state: &mut [f64], dim: usize, r: usize, i: usize)
-    requires has_sign { HasSign state.old dim i }
-    requires r_lt_dim { r < dim }
-    ensures { state.new ≡ settled_entry dim r i state.old }
-{
-    let below = state[dim * dim + i] < 0.0;
-    settle_where(state, dim, r, i, below);
-}
-
 // In row r the signs of the k indices from s on are folded into their columns.
 fn settle_part(state: &mut [f64], dim: usize, r: usize, s: usize, k: usize)
     requires has_band { HasBand state.old dim s k }
     requires r_lt_dim { r < dim }
     ensures { state.new ≡ matrix dim (part_settled (band s k) r (state_at dim state.old)) state.old }
 {
-    let mut j = 0;
-    while j < k {
-        settle_entry(state, dim, r, s + j);
-        j += 1;
+    for j in 0..k {
+        let i = s + j;
+        let below = state[dim * dim + i] < 0.0;
+        settle_where(state, dim, r, i, below);
     }
 }
 
@@ -97,11 +84,16 @@ fn settle_columns(state: &mut [f64], dim: usize, s: usize, k: usize)
     requires { HasBand state.old dim s k }
     ensures { state.new ≡ matrix dim (columns_settled (band s k) (state_at dim state.old)) state.old }
 {
-    let mut r = 0;
-    while r < dim {
+    for r in 0..dim {
         settle_part(state, dim, r, s, k);
-        r += 1;
     }
+}
+
+// One of the signs is below zero.
+fn any_below(signs: &[f64]) -> bool
+    ensures { result ≡ any_below signs.now }
+{
+    signs.iter().any(|x| *x < 0.0)
 }
 
 // The signs of the k indices from s on are folded into m. Where none is below zero, m is not read.
@@ -109,67 +101,45 @@ pub fn settle(state: &mut [f64], dim: usize, s: usize, k: usize)
     requires { HasBand state.old dim s k }
     ensures { state.new ≡ stored dim (settled_state (band s k) (state_at dim state.old)) state.old }
 {
-    let mut j = 0;
-    while j < k {
-        if state[dim * dim + (s + j)] < 0.0 {
-            settle_columns(state, dim, s, k);
-            settle_rows(state, dim, s, k);
-            return;
-        }
-        j += 1;
+    let at = dim * dim + s;
+    if any_below(&state[at..at + k]) {
+        settle_columns(state, dim, s, k);
+        settle_rows(state, dim, s, k);
     }
+}
+
+// Which of four signs are below zero.
+#[derive(Clone, Copy)]
+struct Below {
+    pub x0: bool,
+    pub x1: bool,
+    pub x2: bool,
+    pub x3: bool,
 }
 
 // The same four wide, with the signs read before: for all that the compiler knows a store to m may be
 // one to d, so that it would read them again in every row.
-fn settle_part4(
-    state: &mut [f64],
-    dim: usize,
-    r: usize,
-    s: usize,
-    b0: bool,
-    b1: bool,
-    b2: bool,
-    b3: bool,
-)
+fn settle_part4(state: &mut [f64], dim: usize, r: usize, s: usize, below: Below)
     requires has_band { HasBand state.old dim s 4 }
     requires r_lt_dim { r < dim }
-    requires below4 { Below4 state.old dim s b0 b1 b2 b3 }
+    requires below4 { Below4 state.old dim s below }
     ensures { state.new ≡ matrix dim (part_settled (band s 4) r (state_at dim state.old)) state.old }
 {
-    settle_where(state, dim, r, s, b0);
-    settle_where(state, dim, r, s + 1, b1);
-    settle_where(state, dim, r, s + 2, b2);
-    settle_where(state, dim, r, s + 3, b3);
+    settle_where(state, dim, r, s, below.x0);
+    settle_where(state, dim, r, s + 1, below.x1);
+    settle_where(state, dim, r, s + 2, below.x2);
+    settle_where(state, dim, r, s + 3, below.x3);
 }
 
 // In every row.
-fn settle_columns4(state: &mut [f64], dim: usize, s: usize, b0: bool, b1: bool, b2: bool, b3: bool)
+fn settle_columns4(state: &mut [f64], dim: usize, s: usize, below: Below)
     requires has_band { HasBand state.old dim s 4 }
-    requires below4 { Below4 state.old dim s b0 b1 b2 b3 }
+    requires below4 { Below4 state.old dim s below }
     ensures { state.new ≡ matrix dim (columns_settled (band s 4) (state_at dim state.old)) state.old }
 {
-    let mut r = 0;
-    while r < dim {
-        settle_part4(state, dim, r, s, b0, b1, b2, b3);
-        r += 1;
+    for r in 0..dim {
+        settle_part4(state, dim, r, s, below);
     }
-}
-
-// One of them is set.
-fn any4(b0: bool, b1: bool, b2: bool, b3: bool) -> bool
-    ensures { result ≡ b0 || (b1 || (b2 || b3)) }
-{
-    if b0 {
-        return true;
-    }
-    if b1 {
-        return true;
-    }
-    if b2 {
-        return true;
-    }
-    b3
 }
 
 // What `settle` does, four wide.
@@ -178,12 +148,14 @@ pub fn settle4(state: &mut [f64], dim: usize, s: usize)
     ensures { state.new ≡ stored dim (settled_state (band s 4) (state_at dim state.old)) state.old }
 {
     let at = dim * dim + s;
-    let b0 = state[at] < 0.0;
-    let b1 = state[at + 1] < 0.0;
-    let b2 = state[at + 2] < 0.0;
-    let b3 = state[at + 3] < 0.0;
-    if any4(b0, b1, b2, b3) {
-        settle_columns4(state, dim, s, b0, b1, b2, b3);
+    let below = Below {
+        x0: state[at] < 0.0,
+        x1: state[at + 1] < 0.0,
+        x2: state[at + 2] < 0.0,
+        x3: state[at + 3] < 0.0,
+    };
+    if below.x0 || below.x1 || below.x2 || below.x3 {
+        settle_columns4(state, dim, s, below);
         settle_rows(state, dim, s, 4);
     }
 }
@@ -191,10 +163,8 @@ pub fn settle4(state: &mut [f64], dim: usize, s: usize)
 fn negate_all(v: &mut [f64])
     ensures { v.new ≡ map neg v.old }
 {
-    let mut i = 0;
-    while i < v.len() {
+    for i in 0..v.len() {
         v[i] = -v[i];
-        i += 1;
     }
 }
 

@@ -4,14 +4,14 @@ use mathlib.Core.Path.{◌≡◌, refl, sym, ap, ap₂, subst, ◌∙◌}
 use mathlib.Core.Bool.{Bool, true, false, cond, ◌&&◌, false≢true}
 use mathlib.Core.List.{List}
 use mathlib.Core.Logic.{◌⊎◌, inl, inr, ◌≢◌}
-use Prim.Native.Nat.{ℕ, zero, suc, ◌+◌, ◌-◌, ◌≤◌, ◌<◌}
+use Prim.Native.Nat.{ℕ, zero, suc, ◌+◌, ◌≤◌, ◌<◌}
 use native.Mathlib.Nat.{not-suc-le-zero, eq-or-lt_of_le}
 use native.Mathlib.Numerals.{add-one}
 use native.Mathlib.Omega.{arith}
 use lib.Dec.{eqb}
 use borrow.Author.Tests.{eq-eqb, ne_eqb, eqb-true}
 use Rattle.laws.specs.Views.{seek}
-use Rattle.laws.proofs.Views.{seek_hit, seek-miss, seek-none, seek-gap, seek-fails, seek-passes}
+use Rattle.laws.proofs.Views.{seek-none, seek-gap, seek-fails, seek-passes}
 use Rattle.laws.proofs.Cases.{eq-or-ne}
 use Rattle.work.specs.Sizes.{record_marks}
 use Rattle.work.specs.Marks.{mark_at, put_mark, Only, Records}
@@ -61,7 +61,7 @@ pair l h = record { lo = l; hi = h }
 -- the edge of the pair l, h is among the first p, and the last of these has the smaller wire l
 pub record Walks (us : List ℕ) (m l h p : ℕ) : Type 0 where
   pub few : p ≤ m
-  pub wire : 0 < p → (edge_at us (p - 1)).lo ≡ l
+  pub wire : (i : ℕ) → p ≡ i + 1 → (edge_at us i).lo ≡ l
   pub same : seek (joins_at us (pair l h)) m ≡ seek (joins_at us (pair l h)) p
 
 module _ (us : List ℕ) (m n l h : ℕ) (c : Chained us m n) where
@@ -69,7 +69,7 @@ module _ (us : List ℕ) (m n l h : ℕ) (c : Chained us m n) where
   jump : (k p : ℕ) → k ≤ m → seek (joins_at us (pair l h)) m ≡ seek (joins_at us (pair l h)) k → p ≡ seek (on_wire us l) k → Walks us m l h p
   jump k p f s e = record {
     few = omega (arith, e, seek-most (on_wire us l) k);
-    wire = λ g. eqb-true (edge_at us (p - 1)).lo l (seek-passes (on_wire us l) k (p - 1) (omega (arith, e, g)));
+    wire = λ i q. eqb-true (edge_at us i).lo l (seek-passes (on_wire us l) k i (omega (arith, e, q)));
     same = s ∙ seek-within (joins_at us (pair l h)) (on_wire us l) other k ∙ ap (seek (joins_at us (pair l h))) (sym e);
   }
     where
@@ -79,30 +79,31 @@ module _ (us : List ℕ) (m n l h : ℕ) (c : Chained us m n) where
   pub walk_start : (p : ℕ) → l < n → p ≡ mark_at us l head_column → Walks us m l h p
   walk_start p g e = jump m p (omega arith) refl (e ∙ c.head l g)
 
-  module _ (p : ℕ) (w : Walks us m l h p) (g : 0 < p) where
-    own : eqb (edge_at us (p - 1)).lo l ≡ true
-    own = eq-eqb (edge_at us (p - 1)).lo l (w.wire g)
+  -- at edge i
+  module _ (i : ℕ) (w : Walks us m l h (i + 1)) where
+    own : eqb (edge_at us i).lo l ≡ true
+    own = eq-eqb (edge_at us i).lo l (w.wire i refl)
 
-    before : mark_at us (p - 1) next_column ≡ seek (on_wire us l) (p - 1)
-    before = c.next (p - 1) (omega (arith, w.few)) ∙ ap (λ (l : ℕ). seek (on_wire us l) (p - 1)) (w.wire g)
+    before : mark_at us i next_column ≡ seek (on_wire us l) i
+    before = c.next i (omega (arith, w.few)) ∙ ap (λ (l : ℕ). seek (on_wire us l) i) (w.wire i refl)
 
-    pub walk-hits : (edge_at us (p - 1)).hi ≡ h → p ≡ seek (joins_at us (pair l h)) m
-    walk-hits e = sym (w.same ∙ seek_hit (joins_at us (pair l h)) p g hit)
+    pub walk-hits : (edge_at us i).hi ≡ h → i + 1 ≡ seek (joins_at us (pair l h)) m
+    walk-hits e = sym (w.same ∙ seek-last (joins_at us (pair l h)) i hit)
       where
-        hit : joins_at us (pair l h) (p - 1) ≡ true
-        hit = rw (own, eq-eqb (edge_at us (p - 1)).hi h e)
+        hit : joins_at us (pair l h) i ≡ true
+        hit = rw (own, eq-eqb (edge_at us i).hi h e)
 
-    pub walk_more : (r : ℕ) → (edge_at us (p - 1)).hi ≢ h → r ≡ mark_at us (p - 1) next_column → Walks us m l h r
-    walk_more r ne e = jump (p - 1) r (omega (arith, w.few)) (w.same ∙ seek-miss (joins_at us (pair l h)) p g miss) (e ∙ before)
+    pub walk_more : (r : ℕ) → (edge_at us i).hi ≢ h → r ≡ mark_at us i next_column → Walks us m l h r
+    walk_more r ne e = jump i r (omega (arith, w.few)) (w.same ∙ seek-before (joins_at us (pair l h)) i miss) (e ∙ before)
       where
-        miss : joins_at us (pair l h) (p - 1) ≡ false
-        miss = rw (own, ne_eqb (edge_at us (p - 1)).hi h ne)
+        miss : joins_at us (pair l h) i ≡ false
+        miss = rw (own, ne_eqb (edge_at us i).hi h ne)
 
-    pub walk-falls : (r : ℕ) → r ≡ mark_at us (p - 1) next_column → r < p
-    walk-falls r e = omega (arith, e, before, seek-most (on_wire us l) (p - 1))
+    pub walk-falls : (r : ℕ) → r ≡ mark_at us i next_column → r < i + 1
+    walk-falls r e = omega (arith, e, before, seek-most (on_wire us l) i)
 
-  pub walk_ends : (p : ℕ) → Walks us m l h p → p ≤ 0 → 0 ≡ seek (joins_at us (pair l h)) m
-  walk_ends p w g = sym (w.same ∙ sym (seek-none (joins_at us (pair l h)) p g))
+  pub walk_ends : Walks us m l h 0 → 0 ≡ seek (joins_at us (pair l h)) m
+  walk_ends w = sym (w.same ∙ sym (seek-none (joins_at us (pair l h)) 0 (omega arith)))
 
 -- ---- no edges
 
@@ -282,14 +283,14 @@ module _ (us : List ℕ) (m : ℕ) (p : Pair) (r : ℕ) (e : r ≡ seek (joins_a
   pub found-few : r ≤ m
   found-few = omega (arith, e, seek-most (joins_at us p) m)
 
-  pub found-joins : 0 < r → joins_at us p (r - 1) ≡ true
-  found-joins g = seek-passes (joins_at us p) m (r - 1) (omega (arith, e, g))
+  pub found-joins : (i : ℕ) → r ≡ i + 1 → joins_at us p i ≡ true
+  found-joins i g = seek-passes (joins_at us p) m i (omega (arith, e, g))
 
   -- no pair has two edges, so this is the first
-  pub found_first : (n : ℕ) → Chained us m n → 0 < r → (k : ℕ) → k < r - 1 → joins_at us p k ≡ false
-  found_first n c g k h =
-      let o = joins_pair p (edge_at us (r - 1)) (found-joins g) in
-      joins-same refl refl (sym o.0) (sym o.1) ∙ c.once (r - 1) k (omega (arith, found-few)) h
+  pub found_first : (n : ℕ) → Chained us m n → (i : ℕ) → r ≡ i + 1 → (k : ℕ) → k < i → joins_at us p k ≡ false
+  found_first n c i g k h =
+      let o = joins_pair p (edge_at us i) (found-joins i g) in
+      joins-same refl refl (sym o.0) (sym o.1) ∙ c.once i k (omega (arith, found-few, g)) h
 
-  pub found_none : r ≤ 0 → (k : ℕ) → k < m → joins_at us p k ≡ false
+  pub found_none : r ≡ 0 → (k : ℕ) → k < m → joins_at us p k ≡ false
   found_none g = seek-fails (joins_at us p) m (omega (arith, e, g))

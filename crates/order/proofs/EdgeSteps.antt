@@ -28,21 +28,21 @@ use Rattle.order.proofs.Sums.{up-all, counted_none, counted-more}
 -- what the search for it found
 module _ (us : List ℕ) (m n : ℕ) (p : Pair) (r : ℕ) (e : r ≡ seek (joins_at us p) m) (c : Chained us m n) (room : Records us (m + 1)) where
   -- its edge is there
-  pub add-grows : (vs : List ℕ) → 0 < r → vs ≡ put_heavier us (r - 1) → Added us vs m n p m
-  add-grows vs g put = subst (λ (l : List ℕ). Added us l m n p m) (sym put) (record {
+  pub add-grows : (vs : List ℕ) (i : ℕ) → r ≡ i + 1 → vs ≡ put_heavier us i → Added us vs m n p m
+  add-grows vs i g put = subst (λ (l : List ℕ). Added us l m n p m) (sym put) (record {
     list =
-        added-hit p (edge_at us) (edge_at (put_heavier us (r - 1))) m (r - 1) (omega (arith, few)) (found_first us m p r e n c g)
-        (found-joins us m p r e g) (grown-here us (r - 1) (omega (arith, few))) (grown-away us (r - 1));
+        added-hit p (edge_at us) (edge_at (put_heavier us i)) m i (omega (arith, few, g)) (found_first us m p r e n c i g)
+        (found-joins us m p r e i g) (grown-here us i (omega (arith, few, g))) (grown-away us i);
     more = (omega arith, omega arith);
-    chain = grown-chained us (r - 1) m n c;
-    only = grown-tally us (r - 1);
+    chain = grown-chained us i m n c;
+    only = grown-tally us i;
   })
     where
       few : r ≤ m
       few = found-few us m p r e
 
   -- it is new
-  pub add-appends : (vs : List ℕ) → Records us n → p.lo < n → r ≤ 0 → vs ≡ put_new us m p → Added us vs m n p (m + 1)
+  pub add-appends : (vs : List ℕ) → Records us n → p.lo < n → r ≡ 0 → vs ≡ put_new us m p → Added us vs m n p (m + 1)
   add-appends vs wide low g put = subst (λ (l : List ℕ). Added us l m n p (m + 1)) (sym put) (record {
     list = added_new p (edge_at us) (edge_at (put_new us m p)) m none (new-here us m n p room wide low) (new-away us m n p room wide low);
     more = (omega arith, omega arith);

@@ -20,3 +20,4 @@ pub mod SortSteps
 pub mod KeySteps
 pub mod OrderSteps
 pub mod Inverse
+pub mod Distances

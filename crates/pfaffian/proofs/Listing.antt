@@ -9,10 +9,15 @@ use native.Mathlib.Omega.{arith}
 use lib.Dec.{ltb}
 use lib.ListN.{length, get_or, set, replicate, length-replicate, get_or-replicate, get_or-eq_default}
 use lib.Seq.{get_or-set_same, get_or-set_other}
-use lib.Ieee.{Float}
+use lib.Ieee.{Float, nan}
+use native.Mathlib.Nat.{zero-add}
+use lib.ListN.{take, drop}
+use Rattle.std.proofs.lemmas.List.{take_rest, get_or-take, get_or-drop, length-take-le}
+use borrow.Author.Tests.{le-ltb}
+use Rattle.laws.specs.Tables.{mode_at}
 use Rattle.laws.specs.Matrix.{Mat, at}
 use Rattle.laws.proofs.Cases.{eq-or-ne, lt-or-le}
-use Rattle.pfaffian.specs.Shot.{drawn, after_mode, shot, reached, outcome, bit, qubit_bit, word_of}
+use Rattle.pfaffian.specs.Shot.{drawn, after_mode, shot, reached, outcome, draw_from, bit, qubit_bit, word_of}
 use Rattle.pfaffian.specs.Turns.{Stands, Measures, Listed}
 
 -- ---- the outcomes
@@ -81,6 +86,13 @@ listed-all n m outcomes bits long w k = by (lt-or-le k n)
     by (inl h) = w.done k h
     by (inr h) = w.left k h ∙ none-set m k ∙ sym (get_or-eq_default outcomes false (rw long h))
 
+-- ---- the draws
+
+-- a shot's own draws, lent on
+pub draws-from : (draws : List Float) (first : ℕ) → draw_from (take (length draws - first) (drop first draws)) 0 ≡ draw_from draws first
+draws-from draws first t k =
+    (ap (λ l. get_or l (0 + k) nan) (take_rest draws first) ∙ get_or-drop first draws (0 + k) nan ∙ ap (λ i. get_or draws (first + i) nan) (zero-add k)) t
+
 -- ---- the words
 
 module _ (f : ℕ → Bool) where
@@ -105,6 +117,15 @@ pub word_same : (f g : ℕ → Bool) → ((q : ℕ) → f q ≡ g q) → (q w : 
 unfolding word_of
 word_same f g h q zero = refl
 word_same f g h q (suc w) = λ t. bit (h q t) + 2 * word_same f g h (suc q) w t
+
+-- the modes of n qubits, lent as a part of a list
+pub modes-taken : (ms : List ℕ) (n : ℕ) (outcomes : List Bool) (q : ℕ) → n ≤ length ms
+    → qubit_bit (mode_at (take n ms)) (length (take n ms)) outcomes q ≡ qubit_bit (mode_at ms) n outcomes q
+modes-taken ms n outcomes q h = ap (λ m. ltb q m && get_or outcomes (mode_at (take n ms) q) false) (length-take-le n ms h) ∙ by (lt-or-le q n)
+  where
+    by : (q < n) ⊎ (n ≤ q) → (ltb q n && get_or outcomes (mode_at (take n ms) q) false) ≡ (ltb q n && get_or outcomes (mode_at ms q) false)
+    by (inl l) = ap (λ m. ltb q n && get_or outcomes m false) (get_or-take n ms q 0 l)
+    by (inr l) = rw (le-ltb q n l)
 
 -- outcomes that are the same place by place make the same words
 pub words_same : (modes : ℕ → ℕ) (n : ℕ) (outcomes bits : List Bool) → ((k : ℕ) → get_or bits k false ≡ get_or outcomes k false)

@@ -1,9 +1,8 @@
 // One shot of a sample (001's `sample`). After the first update each later entry below the diagonal is minus the one above it, so
 // only the places right of the diagonal are kept. Until then the matrix is fresh, and nothing is known of it: a mode's two columns
-// are laid, negated, over its rows, which are not read again.
+// are laid, negated, over its rows, which are not read again. A fresh matrix and a used one are the same slice, so that a flag tells them apart.
 
-ghost use Rattle.std.specs.Prelude.{◌≡◌, ◌+◌, ◌*◌, ◌≤◌, ◌<◌, length, get_or};
-ghost use Rattle.std.specs.Float.{nan};
+ghost use Rattle.std.specs.Prelude.{◌≡◌, false, ◌+◌, ◌*◌, ◌≤◌, ◌<◌, length, get_or};
 ghost use Rattle.laws.specs.Matrix.{at, Inside, Holds};
 ghost use Rattle.laws.specs.Tables.{mode_at};
 ghost use Rattle.pfaffian.specs.Work.{Kept};
@@ -21,11 +20,9 @@ fn lay_row(m: &mut [f64], dim: usize, i: usize, s: usize)
     requires i_lt_s { (i < s) × (s ≤ dim) }
     ensures { m.new ≡ laid dim i s m.old }
 {
-    let mut e = s;
-    while e < dim {
+    for e in s..dim {
         let x = entry(m, dim, e, i);
         put(m, dim, i, e, -x);
-        e += 1;
     }
 }
 
@@ -50,15 +47,13 @@ fn update_two(m: &mut [f64], dim: usize, a: usize, c: usize, f: f64)
     let bd = entry(m, dim, b, d);
     let between = entry(m, dim, c, d);
     put(m, dim, c, d, projected(f, between, ac, ad, bc, bd));
-    let mut e = d + 1;
-    while e < dim {
+    for e in d + 1..dim {
         let ae = entry(m, dim, a, e);
         let be = entry(m, dim, b, e);
         let upper = entry(m, dim, c, e);
         let lower = entry(m, dim, d, e);
         put(m, dim, c, e, projected(f, upper, ac, ae, bc, be));
         put(m, dim, d, e, projected(f, lower, ad, ae, bd, be));
-        e += 1;
     }
 }
 
@@ -67,10 +62,8 @@ fn update_rows(m: &mut [f64], dim: usize, a: usize, f: f64)
     requires { Holds m.old dim a 2 }
     ensures { m.new ≡ measured dim a f m.old }
 {
-    let mut c = a + 2;
-    while 2 <= dim - c {
-        update_two(m, dim, a, c, f);
-        c += 2;
+    for pair in 0..(dim - (a + 2)) / 2 {
+        update_two(m, dim, a, a + 2 + 2 * pair, f);
     }
 }
 
@@ -108,92 +101,71 @@ fn spin(one: bool) -> f64
     if one { -1.0 } else { 1.0 }
 }
 
-// A measured mode: its outcome, whether the matrix is still fresh, and where the next draw stands.
+// A measured mode: its outcome, and whether the matrix is still fresh.
 #[derive(Clone, Copy)]
 struct Measured {
     pub one: bool,
     pub fresh: bool,
-    pub at: usize,
 }
 
-// Mode k is measured with the draw at `at`. The draw is used whatever den is.
-fn measure(m: &mut [f64], dim: usize, k: usize, fresh: bool, draws: &[f64], at: usize) -> Measured
-    requires holds { Holds m.old dim (2 * k) 2 }
-    requires at_in_bounds { at < length draws.now }
-    ensures plain { Measures dim k (get_or draws.now at nan) fresh m.old result.one result.fresh m.new }
-    ensures used { result.at ≡ at + 1 }
+// Mode k is measured with its draw.
+fn measure(m: &mut [f64], dim: usize, k: usize, fresh: bool, draw: f64) -> Measured
+    requires { Holds m.old dim (2 * k) 2 }
+    ensures plain { Measures dim k draw fresh m.old result.one result.fresh m.new }
     ensures kept { Kept dim m.old m.new }
 {
     let a = 2 * k;
     let mab = clamp(entry(m, dim, a, a + 1), -1.0, 1.0);
-    let one = drawn(mab, draws[at]);
-    let next = at + 1;
+    let one = drawn(mab, draw);
     let s = spin(one);
     let den = 1.0 + s * mab;
     if den <= 1e-300 {
-        return Measured {
-            one,
-            fresh,
-            at: next,
-        };
+        return Measured { one, fresh };
     }
     update(m, dim, a, s / den, fresh);
-    Measured {
-        one,
-        fresh: false,
-        at: next,
-    }
+    Measured { one, fresh: false }
 }
 
-// All n modes in their order; bits[k] is the outcome of mode k.
-fn measure_modes(m: &mut [f64], n: usize, draws: &[f64], first: usize, bits: &mut [bool])
+// All n modes in their order: mode k uses draw k, and bits[k] is its outcome.
+fn measure_modes(m: &mut [f64], n: usize, draws: &[f64], bits: &mut [bool])
     requires n_in_bounds { 2 * n * (2 * n) ≤ length m.old }
     requires n_in_bounds_2 { n ≤ length bits.old }
-    requires n_in_bounds_3 { first + n ≤ length draws.now }
-    ensures bits { ShotListed n (at (2 * n) m.old) (draw_from draws.now first) bits.old bits.new }
+    requires n_in_bounds_3 { n ≤ length draws.now }
+    ensures bits { ShotListed n (at (2 * n) m.old) (draw_from draws.now 0) bits.old bits.new }
     ensures kept { Kept (2 * n) m.old m.new }
 {
     let dim = 2 * n;
     let mut fresh = true;
-    let mut next = first;
-    let mut k = 0;
-    while k < n {
-        let r = measure(m, dim, k, fresh, draws, next);
+    for k in 0..n {
+        let r = measure(m, dim, k, fresh, draws[k]);
         bits[k] = r.one;
         fresh = r.fresh;
-        next = r.at;
-        k += 1;
     }
 }
 
-// The bit of qubit q: the outcome of its mode.
-fn qubit_bit(bits: &[bool], modes: &[u16], n: usize, q: usize) -> u64
-    requires { n ≤ length modes.now }
-    ensures value { result ≡ bit (qubit_bit (mode_at modes.now) n bits.now q) }
+// The outcome of mode k, which is 0 for a mode that no shot has.
+fn outcome(bits: &[bool], k: usize) -> bool
+    ensures { result ≡ get_or bits.now k false }
+{
+    k < bits.len() && bits[k]
+}
+
+// The bit of qubit q: the outcome of its mode, if it has one.
+fn qubit_bit(bits: &[bool], modes: &[u16], q: usize) -> u64
+    ensures value { result ≡ bit (qubit_bit (mode_at modes.now) (length modes.now) bits.now q) }
     ensures bound { result ≤ 1 }
 {
-    if q < n {
-        let k = num::wide_index(modes[q]);
-        if k < bits.len() {
-            if bits[k] {
-                return 1;
-            }
-        }
-    }
-    0
+    u64::from(q < modes.len() && outcome(bits, usize::from(modes[q])))
 }
 
 // The bits of the 64 qubits from `low` on, the first the lowest.
-fn word(bits: &[bool], modes: &[u16], n: usize, low: usize) -> u64
-    requires n_in_bounds { n ≤ length modes.now }
-    requires low_bound { low ≤ 64 }
-    ensures { result ≡ word_of (qubit_bit (mode_at modes.now) n bits.now) low 64 }
+fn word(bits: &[bool], modes: &[u16], low: usize) -> u64
+    requires { low ≤ 64 }
+    ensures { result ≡ word_of (qubit_bit (mode_at modes.now) (length modes.now) bits.now) low 64 }
 {
     let mut w = 0;
-    let mut i = 64;
-    while 0 < i {
-        i -= 1;
-        w = qubit_bit(bits, modes, n, low + i) + 2 * w;
+    for i in (0..64).rev() {
+        w = qubit_bit(bits, modes, low + i) + 2 * w;
     }
     w
 }
@@ -205,18 +177,19 @@ pub struct Words {
     pub high: u64,
 }
 
-// One shot: bit q is the outcome of the mode that qubit q has. The matrix is overwritten; mode k uses the draw at first + k.
-pub fn shot(m: &mut [f64], n: usize, draws: &[f64], first: usize, modes: &[u16]) -> Words
+// One shot: bit q is the outcome of the mode that qubit q has. The matrix is overwritten; mode k uses draw k.
+pub fn shot(m: &mut [f64], n: usize, draws: &[f64], modes: &[u16]) -> Words
     requires n_in_bounds { 2 * n * (2 * n) ≤ length m.old }
     requires n_le_max_modes { n ≤ max_modes }
-    requires n_in_bounds_2 { first + n ≤ length draws.now }
+    requires n_in_bounds_2 { n ≤ length draws.now }
     requires n_in_bounds_3 { n ≤ length modes.now }
-    ensures words { result ≡ shot_of (at (2 * n) m.old) n (draw_from draws.now first) (mode_at modes.now) }
+    ensures words { result ≡ shot_of (at (2 * n) m.old) n (draw_from draws.now 0) (mode_at modes.now) }
     ensures kept { Kept (2 * n) m.old m.new }
 {
     let mut bits = [false; MODES];
-    measure_modes(m, n, draws, first, &mut bits);
-    let low = word(&bits, modes, n, 0);
-    let high = word(&bits, modes, n, 64);
+    measure_modes(m, n, draws, &mut bits);
+    let modes = &modes[..n];
+    let low = word(&bits, modes, 0);
+    let high = word(&bits, modes, 64);
     Words { low, high }
 }

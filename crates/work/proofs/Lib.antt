@@ -1,2 +1,3 @@
 -- Laws of the marks, for other crates. Assumes nothing.
 pub mod Records
+pub mod KindLaws

@@ -1,4 +1,5 @@
--- What each column of the marks holds, and the kinds of a record. These are the names that definitions use; code has the same in capitals.
+-- What each column of the marks holds, and the kinds of a record. These are the names that definitions use; code has the columns in capitals, and
+-- the kinds as the enum `Kind`.
 -- Assumes nothing. Only inner functions rest on this.
 use Rattle.std.specs.Prelude.{ℕ}
 

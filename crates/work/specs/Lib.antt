@@ -3,3 +3,4 @@ pub mod Sizes
 pub mod Rows
 pub mod Marks
 pub mod Columns
+pub mod Kinds

@@ -1,4 +1,5 @@
-// What each column of the marks holds, and the kinds of a record: specs/Columns.antt says more.
+// What each column of the marks holds: specs/Columns.antt says more.
+// Numbers of columns in place of fields: the marks are one slice of words that the caller lends, so a record cannot be a struct.
 
 // Of a gate's record: its kind and its slots, later the item's kind and wires.
 pub const KIND: usize = 0;
@@ -40,25 +41,3 @@ pub const ORDER: usize = 16;
 pub const POS: usize = 17;
 
 pub const START: usize = 18;
-
-// Kinds of an event.
-pub const GONE: u32 = 0;
-
-pub const ONE: u32 = 1;
-
-pub const TWO: u32 = 2;
-
-pub const THREE: u32 = 3;
-
-// Kinds of an item.
-pub const ONE_ITEM: u32 = 4;
-
-pub const MATCH_ITEM: u32 = 5;
-
-pub const DIAGONAL_ITEM: u32 = 6;
-
-pub const INTERACTION_ITEM: u32 = 7;
-
-pub const NEITHER_ITEM: u32 = 8;
-
-pub const OPAQUE_ITEM: u32 = 9;

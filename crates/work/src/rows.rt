@@ -1,4 +1,5 @@
 // What stands where among the floats of a record: specs/Rows.antt says more. The matrix has the first ones.
+// Numbers of places in place of fields: the floats are one slice that the caller lends, so a record cannot be a struct.
 
 // Of an item on two wires: its residual.
 pub const RESIDUAL: usize = 32;

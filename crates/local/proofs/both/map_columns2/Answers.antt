@@ -20,6 +20,7 @@ use Rattle.local.proofs.Structs.{turn2}
 use Rattle.local.proofs.both.map_columns2.Goals as goal
 
 -- four stores by rows, of what was read before them
+
 module _ (dim s c : ℕ) (q : Map2) (m : List Float) (band : s + 2 ≤ dim) (near : c + 2 ≤ dim) (room : dim * dim ≤ length m) where
   v : Real2
   v = under2 q (column2_of dim m s c)

@@ -19,8 +19,5 @@ loop-r-preserved c =
           l.invariant.1 c.map_row4.ensures,
     )
 
-pub shape_of-m : goal.shape_of-m
-shape_of-m c = c.loop-r.invariant.1.long
-
 pub returns : goal.returns
 returns c = made by_row _ _ _ _ _ _ (λ r c' h g. omega arith) c.loop-r.invariant.1

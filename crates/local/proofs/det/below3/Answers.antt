@@ -5,10 +5,6 @@ use lib.Ieee.{binary64, mul, of_bits}
 use Rattle.local.specs.Det.{eliminated, lowered_all}
 use Rattle.local.proofs.det.below3.Goals as goal
 
-pub returns-then-q : goal.returns-then-q
-unfolding of_bits
-returns-then-q c = rw c.if-q.true
-
 pub returns : goal.returns
 unfolding lowered_all of_bits
 returns c =

@@ -12,13 +12,7 @@ no-order nan z e = refl
 no-order (inf s) z e = absurd (true≢false (sym e))
 no-order (fin s m k) z e = absurd (true≢false (sym e))
 
-pub returns-then-is_nan : goal.returns-then-is_nan
-returns-then-is_nan c = rw (← c.is_nan.ensures, c.if-is_nan.true)
-
-pub returns-then-is_nan-2 : goal.returns-then-is_nan-2
-returns-then-is_nan-2 c =
-    rw (← c.is_nan.ensures, c.if-is_nan.false, no-order _ _ (sym c.is_nan-2.ensures ∙ c.if-is_nan-2.true))
-
-pub returns : goal.returns
-returns c =
-    rw (← c.is_nan.ensures, c.if-is_nan.false, ← c.abs-2.ensures, ← c.abs.ensures)
+pub returns-else-not-is_nan : goal.returns-else-not-is_nan
+returns-else-not-is_nan c =
+    let n = c.if-not-is_nan.false in
+    rw (← c.is_nan.ensures.value, c.if-is_nan.false, n, no-order _ _ (sym c.is_nan-else-is_nan.ensures.value ∙ n))

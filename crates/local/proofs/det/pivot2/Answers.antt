@@ -2,30 +2,28 @@
 use mathlib.Core.Path.{◌≡◌, sym, ap, ◌∙◌}
 use mathlib.Core.List.{[], ◌∷◌}
 use native.Mathlib.Omega.{arith}
+use Rattle.real.specs.declared.maps.Real2.{Real2}
 use Rattle.local.specs.Det.{better_of, last_largest}
+use Rattle.local.specs.declared.det.Best.{Best}
 use Rattle.local.specs.Parts.{line2}
 use Rattle.local.proofs.DetLaws.{largest-below, chosen}
 use Rattle.local.proofs.det.pivot2.Goals as goal
-use Rattle.local.proofs.det.pivot2.Goals.{After-better-best}
 
 -- the pivot's number
-found : (c : After-better-best) → let a = c.args in
-    c.better-best.result.row ≡ last_largest (line2 a.b ∷ []) 1 (record { row = 0; head = a.a.x0 })
+found : (a b : Real2) (f g : Best) → f ≡ record { row = 0; head = a.x0 } → g ≡ better_of f 1 b.x0
+    → g.row ≡ last_largest (line2 b ∷ []) 1 (record { row = 0; head = a.x0 })
 unfolding last_largest
-found c = ap (λ b. b.row) (c.better-best.ensures ∙ ap (λ b. better_of b 1 c.args.b.x0) c.first.ensures)
+found a b f g e h = ap (λ b. b.row) (h ∙ ap (λ f. better_of f 1 b.x0) e)
 
-pub returns-then-p-eq0 : goal.returns-then-p-eq0
-returns-then-p-eq0 c =
+pub returns-in-0 : goal.returns-in-0
+returns-in-0 c =
     let a = c.args in
-    c.below2.ensures ∙ sym (chosen 1 (line2 a.a) (line2 a.b ∷ []) a.d 0 (sym (found c.before.before) ∙ c.if-p-eq0.true))
+    let p = found a.a a.b _ _ c.first.ensures c.or.ensures in
+    c.below2.ensures ∙ sym (chosen 1 (line2 a.a) (line2 a.b ∷ []) a.d 0 (sym p ∙ c.in-0.is))
 
-pub returns : goal.returns
-returns c =
+pub returns-in_default : goal.returns-in_default
+returns-in_default c =
     let a = c.args in
-    let one : c.better-best.result.row ≡ 1 = omega (
-      arith,
-      found c.before.before,
-      largest-below (line2 a.b ∷ []) 1 (record { row = 0; head = a.a.x0 })
-          (omega arith),
-    ) in
-    c.below2-2.ensures ∙ sym (chosen 1 (line2 a.a) (line2 a.b ∷ []) a.d 1 (sym (found c.before.before) ∙ one))
+    let p = found a.a a.b _ _ c.first.ensures c.or.ensures in
+    let one : c.or.result.row ≡ 1 = omega (arith, p, largest-below (line2 a.b ∷ []) 1 (record { row = 0; head = a.a.x0 }) (omega arith)) in
+    c.below2-in_default.ensures ∙ sym (chosen 1 (line2 a.a) (line2 a.b ∷ []) a.d 1 (sym p ∙ one))

@@ -3,38 +3,34 @@ use mathlib.Core.Path.{◌≡◌, sym, ap, ◌∙◌}
 use mathlib.Core.List.{[], ◌∷◌}
 use native.Mathlib.Omega.{arith}
 use Rattle.local.specs.Det.{better_of, last_largest}
+use Rattle.local.specs.declared.det.Best.{Best}
+use Rattle.local.specs.declared.det.Real3.{Real3}
 use Rattle.local.specs.Parts.{line3}
 use Rattle.local.proofs.DetLaws.{largest-below, chosen}
 use Rattle.local.proofs.det.pivot3.Goals as goal
-use Rattle.local.proofs.det.pivot3.Goals.{After-better-best}
 
 -- the pivot's number
-found : (c : After-better-best) → let a = c.args in
-    c.better-best.result.row ≡ last_largest (line3 a.b ∷ line3 a.c ∷ []) 1 (record { row = 0; head = a.a.x0 })
+found : (a b c : Real3) (f g h : Best) → f ≡ record { row = 0; head = a.x0 } → g ≡ better_of f 1 b.x0 → h ≡ better_of g 2 c.x0
+    → h.row ≡ last_largest (line3 b ∷ line3 c ∷ []) 1 (record { row = 0; head = a.x0 })
 unfolding last_largest
-found c =
-    let a = c.args in
-    ap (λ b. b.row)
-    (c.better-best.ensures ∙ ap (λ b. better_of b 2 a.c.x0) (c.better.ensures ∙ ap (λ b. better_of b 1 a.b.x0)
-    c.first.ensures))
+found a b c f g h e i j = ap (λ b. b.row) (j ∙ ap (λ g. better_of g 2 c.x0) (i ∙ ap (λ f. better_of f 1 b.x0) e))
 
-pub returns-then-p-eq0 : goal.returns-then-p-eq0
-returns-then-p-eq0 c =
+pub returns-in-0 : goal.returns-in-0
+returns-in-0 c =
     let a = c.args in
-    c.below3.ensures ∙ sym (chosen 2 (line3 a.a) (line3 a.b ∷ line3 a.c ∷ []) a.d 0 (sym (found c.before.before) ∙ c.if-p-eq0.true))
+    let p = found a.a a.b a.c _ _ _ c.first.ensures c.or.ensures c.or-2.ensures in
+    c.below3.ensures ∙ sym (chosen 2 (line3 a.a) (line3 a.b ∷ line3 a.c ∷ []) a.d 0 (sym p ∙ c.in-0.is))
 
-pub returns-then-p-eq1 : goal.returns-then-p-eq1
-returns-then-p-eq1 c =
+pub returns-in-1 : goal.returns-in-1
+returns-in-1 c =
     let a = c.args in
-    c.below3-then-p-eq1.ensures ∙ sym (chosen 2 (line3 a.a) (line3 a.b ∷ line3 a.c ∷ []) a.d 1 (sym (found c.before.before.before) ∙ c.if-p-eq1.true))
+    let p = found a.a a.b a.c _ _ _ c.first.ensures c.or.ensures c.or-2.ensures in
+    c.below3-in-1.ensures ∙ sym (chosen 2 (line3 a.a) (line3 a.b ∷ line3 a.c ∷ []) a.d 1 (sym p ∙ c.in-1.is))
 
-pub returns : goal.returns
-returns c =
+pub returns-in_default : goal.returns-in_default
+returns-in_default c =
     let a = c.args in
-    let two : c.better-best.result.row ≡ 2 = omega (
-      arith,
-      found c.before.before.before,
-      largest-below (line3 a.b ∷ line3 a.c ∷ []) 1
-          (record { row = 0; head = a.a.x0 }) (omega arith),
-    ) in
-    c.below3-2.ensures ∙ sym (chosen 2 (line3 a.a) (line3 a.b ∷ line3 a.c ∷ []) a.d 2 (sym (found c.before.before.before) ∙ two))
+    let p = found a.a a.b a.c _ _ _ c.first.ensures c.or.ensures c.or-2.ensures in
+    let two : c.or-2.result.row ≡ 2 =
+    omega (arith, p, largest-below (line3 a.b ∷ line3 a.c ∷ []) 1 (record { row = 0; head = a.a.x0 }) (omega arith)) in
+    c.below3-in_default.ensures ∙ sym (chosen 2 (line3 a.a) (line3 a.b ∷ line3 a.c ∷ []) a.d 2 (sym p ∙ two))

@@ -27,8 +27,5 @@ loop-c-preserved c =
           ∙ turn4 c.args.s c.args.dim l.c l.m c.args.q),
     )
 
-pub shape_of-m : goal.shape_of-m
-shape_of-m c = c.loop-c.invariant.1.long
-
 pub returns : goal.returns
 returns c = made by_col _ _ _ _ _ _ (λ r c' h g. omega arith) c.loop-c.invariant.1

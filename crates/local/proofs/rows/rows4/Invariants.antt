@@ -1,11 +1,8 @@
 -- `local::rows::rows4` meets its contract: a turn makes a column. Assumes nothing.
-use Prim.Native.Nat.{◌-◌, ◌≤◌}
+use Prim.Native.Nat.{◌≤◌}
 use Rattle.laws.proofs.Maps.{RowsTo}
 use Rattle.real.specs.Maps.{local4}
 use Rattle.local.proofs.rows.rows4.Given as goal
 
 abbrev pub invariant-loop-c : goal.invariant-loop-c
 invariant-loop-c l = (l.c ≤ l.dim) × RowsTo (local4 l.s l.q) l.dim l.initial.m l.c l.m
-
-abbrev pub decreases-loop-c : goal.decreases-loop-c
-decreases-loop-c l = l.dim - l.c

@@ -15,8 +15,5 @@ loop-i-preserved c =
     let l = c.loop-i in
     (simp length-set (omega arith), mapped-more neg l.i nan _ l.v _ (omega arith) l.invariant.1 refl)
 
-pub shape_of-v : goal.shape_of-v
-shape_of-v c = c.loop-i.invariant.0.1
-
 pub returns : goal.returns
 returns c = c.loop-i.invariant.1 ∙ mapped-all neg c.loop-i.i _ (omega arith)

@@ -1,6 +1,6 @@
 -- `local::signs::negate_all` meets its contract: the elements are negated from the front. Assumes nothing.
 use mathlib.Core.Path.{◌≡◌}
-use Prim.Native.Nat.{◌-◌, ◌≤◌}
+use Prim.Native.Nat.{◌≤◌}
 use lib.ListN.{length}
 use lib.Ieee.{neg}
 use Rattle.laws.specs.Slices.{mapped_to}
@@ -8,6 +8,3 @@ use Rattle.local.proofs.signs.negate_all.Given as goal
 
 abbrev pub invariant-loop-i : goal.invariant-loop-i
 invariant-loop-i l = ((l.i ≤ length l.initial.v) × (length l.v ≡ length l.initial.v)) × (l.v ≡ mapped_to neg l.i l.initial.v)
-
-abbrev pub decreases-loop-i : goal.decreases-loop-i
-decreases-loop-i l = length l.initial.v - l.i

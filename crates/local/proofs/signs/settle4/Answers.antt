@@ -28,16 +28,16 @@ settle_columns4-requires c =
       };
     }
 
-pub returns-then-any4 : goal.returns-then-any4
-returns-then-any4 c =
+pub returns-then-below : goal.returns-then-below
+returns-then-below c =
     settled-both c.args.dim c.args.s 4 c.args.state.now _ _ c.requires.room c.settle_columns4.ensures c.settle_rows.ensures
 
-pub returns-else-any4 : goal.returns-else-any4
+pub returns-else-below-4 : goal.returns-else-below-4
 unfolding of_bits
-returns-else-any4 c =
+returns-else-below-4 c =
     let v = c.args.state.now in
     let dim = c.args.dim in
     let s = c.args.s in
     let first : lt (get_or v (dim * dim + (s + 0)) nan) +0 ≡ lt (get_or v (dim * dim + s) nan) +0 = ap (λ n. lt (get_or v (dim * dim + n) nan) +0) (add-zero s) in
     settled-none dim s 4 v c.requires.room (none_of_four (λ i. lt (get_or v (dim * dim + (s + i)) nan) +0)
-    ((λ z. first z || (sym (place v dim s 1) z || (sym (place v dim s 2) z || sym (place v dim s 3) z))) ∙ sym c.any4.ensures ∙ c.if-any4.false))
+    (λ z. (first ∙ c.if-below.false) z || ((sym (place v dim s 1) ∙ c.if-below-2.false) z || ((sym (place v dim s 2) ∙ c.if-below-3.false) z || (sym (place v dim s 3) ∙ c.if-below-4.false) z))))

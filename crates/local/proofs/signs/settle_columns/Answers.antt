@@ -10,10 +10,6 @@ use Rattle.local.proofs.signs.settle_columns.Goals as goal
 pub loop-r-init : goal.loop-r-init
 loop-r-init c = (search rules, none _ _ _ _ _ (λ r c h g. refl))
 
-pub settle_part-requires : goal.settle_part-requires
-settle_part-requires c =
-    record { has_band = record { room = omega (arith, c.requires.room, c.loop-r.invariant.1.long); band = c.requires.band }; r_lt_dim = c.loop-r-test.true }
-
 pub loop-r-preserved : goal.loop-r-preserved
 loop-r-preserved c =
     let l = c.loop-r in (
@@ -22,9 +18,6 @@ loop-r-preserved c =
           c.requires.band
           l.invariant.1 c.settle_part.ensures,
     )
-
-pub shape_of-state : goal.shape_of-state
-shape_of-state c = c.loop-r.invariant.1.long
 
 pub returns : goal.returns
 returns c = made by_row _ _ _ _ _ _ (λ r c' h g. omega arith) c.loop-r.invariant.1

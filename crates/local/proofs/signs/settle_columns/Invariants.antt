@@ -1,10 +1,7 @@
 -- `local::signs::settle_columns` meets its contract, a row's part a turn. Assumes nothing.
-use Prim.Native.Nat.{◌-◌, ◌≤◌}
+use Prim.Native.Nat.{◌≤◌}
 use Rattle.local.proofs.Settling.{ColumnsTo}
 use Rattle.local.proofs.signs.settle_columns.Given as goal
 
 abbrev pub invariant-loop-r : goal.invariant-loop-r
 invariant-loop-r l = (l.r ≤ l.dim) × ColumnsTo l.dim l.s l.k l.initial.state l.r l.state
-
-abbrev pub decreases-loop-r : goal.decreases-loop-r
-decreases-loop-r l = l.dim - l.r

@@ -2,38 +2,20 @@
 use mathlib.Core.Path.{◌≡◌, ◌∙◌}
 use native.Mathlib.Nat.{le_antisymm}
 use native.Mathlib.Omega.{arith}
-use borrow.Author.Rules.{rules}
 use Rattle.laws.specs.Matrix.{matrix}
 use Rattle.laws.proofs.Matrix.{is-matrix}
 use Rattle.local.specs.State.{state_at}
 use Rattle.local.specs.Parts.{band, part_settled}
-use Rattle.local.proofs.Settling.{part_none, part-next}
+use Rattle.local.proofs.Settling.{part-next}
 use Rattle.local.proofs.signs.settle_part.Goals as goal
-
-pub loop-j-init : goal.loop-j-init
-loop-j-init c = (search rules, part_none _ _ _ _)
-
-pub settle_entry-requires : goal.settle_entry-requires
-settle_entry-requires c =
-    record {
-      has_sign = record {
-        room = omega (arith, c.requires.has_band.room, c.loop-j.invariant.1.long);
-        row = omega
-            (arith, c.requires.has_band.band, c.loop-j-test.true);
-      };
-      r_lt_dim = c.requires.r_lt_dim;
-    }
 
 pub loop-j-preserved : goal.loop-j-preserved
 loop-j-preserved c =
     let l = c.loop-j in (
       omega arith,
       part-next c.args.dim c.args.r c.args.s l.j c.args.state.now l.state c.requires.r_lt_dim
-          (omega (arith, c.requires.has_band.band, c.loop-j-test.true)) c.requires.has_band.room l.invariant.1 _ c.settle_entry.ensures,
+          (omega (arith, c.requires.has_band.band, c.loop-j-test.true)) c.requires.has_band.room l.invariant.1 _ c.settle_where.ensures,
     )
-
-pub shape_of-state : goal.shape_of-state
-shape_of-state c = c.loop-j.invariant.1.long
 
 pub returns : goal.returns
 returns c =

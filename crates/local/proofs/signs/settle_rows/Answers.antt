@@ -2,15 +2,11 @@
 use mathlib.Core.Path.{◌≡◌, ◌∙◌}
 use native.Mathlib.Nat.{le_antisymm}
 use native.Mathlib.Omega.{arith}
-use borrow.Author.Rules.{rules}
 use Rattle.local.specs.State.{state_at, stored}
 use Rattle.local.specs.Parts.{band, rows_settled}
 use Rattle.local.proofs.Stored.{is-stored}
-use Rattle.local.proofs.Settling.{rows_none, rows_more}
+use Rattle.local.proofs.Settling.{rows_more}
 use Rattle.local.proofs.signs.settle_rows.Goals as goal
-
-pub loop-j-init : goal.loop-j-init
-loop-j-init c = (search rules, rows_none _ _ _)
 
 pub loop-j-preserved : goal.loop-j-preserved
 loop-j-preserved c =
@@ -19,9 +15,6 @@ loop-j-preserved c =
     (omega arith)
     c.requires.room l.invariant.1 c.settle_row.ensures in
     ((omega arith, more.long), more)
-
-pub shape_of-state : goal.shape_of-state
-shape_of-state c = c.loop-j.invariant.0.1
 
 pub returns : goal.returns
 returns c =

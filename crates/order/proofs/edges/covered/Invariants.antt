@@ -9,6 +9,3 @@ use Rattle.order.proofs.edges.covered.Given as goal
 
 abbrev pub invariant-loop-i : goal.invariant-loop-i
 invariant-loop-i l = (l.i ≤ l.m) × (l.s ≡ covered_by (up_from (edge_at l.u) l.i (l.m - l.i)) (column pos_column l.u)) × (l.s + 0x1_0000_0000 * l.i ≤ 0x1_0000_0000 * l.m)
-
-abbrev pub decreases-loop-i : goal.decreases-loop-i
-decreases-loop-i l = l.i

@@ -7,6 +7,3 @@ use Rattle.order.proofs.edges.weighs.Given as goal
 
 abbrev pub invariant-loop-i : goal.invariant-loop-i
 invariant-loop-i l = (l.i ≤ l.m) × (l.s ≡ weighs_of (up_from (edge_at l.u) l.i (l.m - l.i))) × (l.s + 0x1_0000_0000 * l.i ≤ 0x1_0000_0000 * l.m)
-
-abbrev pub decreases-loop-i : goal.decreases-loop-i
-decreases-loop-i l = l.i

@@ -8,25 +8,27 @@ use Rattle.laws.specs.Steps.{corner_from}
 use Rattle.laws.proofs.Sweep.{sweep-done}
 use Rattle.laws.proofs.Eliminations.{PairRow, pair-row-more, corner-low, corner-on, corner-row-start}
 use Rattle.pfaffian.specs.Turns.{less_by}
-use Rattle.pfaffian.proofs.Elimination.{Walk, rows_in, walk}
+use Rattle.pfaffian.proofs.Elimination.{Walk, walk}
 use Rattle.pfaffian.proofs.pairs.eliminate_row.Goals as goal
 use Rattle.pfaffian.proofs.pairs.eliminate_row.Goals.{In-loop-x}
 
-pub loop-x-init : goal.loop-x-init
-loop-x-init c =
-    let n : c.args.k * c.args.dim + (c.args.k + 2) - c.args.k * c.args.dim ≡ c.args.k + 2 = omega arith in
-    (omega (arith, c.requires), rw n (corner-row-start _ _ _ _ _))
-
 -- where the turn's entries stand
+
 here : (c : In-loop-x) → Walk c.args.dim c.args.k c.args.i c.loop-x.x
 here c = walk c.args.dim c.args.k c.args.i c.loop-x.x c.requires.k_bound c.requires.inside.row c.loop-x.invariant.0.0 c.loop-x-test.true
 
 -- they are in the slice
+
 in-slice : (c : In-loop-x)
     → let l = c.loop-x in (l.x + c.args.dim < length l.a) × (l.x + (c.args.i * c.args.dim - c.args.k * c.args.dim) < length l.a)
 in-slice c =
     let w = (here c).room in
     (omega (arith, w, c.loop-x.invariant.1.long, c.requires.inside.room), omega (arith, w, c.loop-x.invariant.1.long, c.requires.inside.room))
+
+pub loop-x-init : goal.loop-x-init
+loop-x-init c =
+    let n : c.args.k * c.args.dim + (c.args.k + 2) - c.args.k * c.args.dim ≡ c.args.k + 2 = omega arith in
+    (omega (arith, c.requires), rw n (corner-row-start _ _ _ _ _))
 
 pub loop-x-preserved : goal.loop-x-preserved
 loop-x-preserved c =
@@ -48,62 +50,5 @@ loop-x-preserved c =
           l.invariant.1 (λ s. set l.a (w.own s) v)),
     )
 
-pub shape_of-a : goal.shape_of-a
-shape_of-a c = c.loop-x.invariant.1.long
-
 pub returns : goal.returns
 returns c = sweep-done _ _ _ _ _ _ _ c.loop-x.invariant.1 (λ r' c' h g. omega (arith, c.loop-x-test.false, c.loop-x.invariant.0))
-
-pub overflow_mul-top : goal.overflow_mul-top
-overflow_mul-top c = omega (arith, rows_in c.args.dim c.args.k c.args.i c.requires.k_bound c.requires.inside.row, c.requires.inside.room)
-
-pub overflow_mul-down : goal.overflow_mul-down
-overflow_mul-down c = omega (arith, rows_in c.args.dim c.args.k c.args.i c.requires.k_bound c.requires.inside.row, c.requires.inside.room)
-
-pub overflow_sub-down : goal.overflow_sub-down
-overflow_sub-down c = (rows_in c.args.dim c.args.k c.args.i c.requires.k_bound c.requires.inside.row).1
-
-pub overflow_add-end : goal.overflow_add-end
-overflow_add-end c = omega (arith, rows_in c.args.dim c.args.k c.args.i c.requires.k_bound c.requires.inside.row, c.requires.inside.room)
-
-pub overflow_add-x-2 : goal.overflow_add-x-2
-overflow_add-x-2 c = omega (arith, rows_in c.args.dim c.args.k c.args.i c.requires.k_bound c.requires.inside.row, c.requires.inside.room)
-
-pub offset_bounds-a-x : goal.offset_bounds-a-x
-offset_bounds-a-x c = omega (arith, in-slice c)
-
-pub bounds-a-x : goal.bounds-a-x
-bounds-a-x c = omega (arith, in-slice c.before.before)
-
-pub overflow_add-rowj : goal.overflow_add-rowj
-overflow_add-rowj c = omega (arith, in-slice c.before.before)
-
-pub offset_bounds-a-x-in-loop-x : goal.offset_bounds-a-x-in-loop-x
-offset_bounds-a-x-in-loop-x c = omega (arith, in-slice c.before.before)
-
-pub bounds-a-x-in-loop-x : goal.bounds-a-x-in-loop-x
-bounds-a-x-in-loop-x c = omega (arith, in-slice c.before.before.before)
-
-pub overflow_add-old : goal.overflow_add-old
-overflow_add-old c = omega (arith, in-slice c.before.before.before)
-
-pub offset_bounds-a-x-in-loop-x-2 : goal.offset_bounds-a-x-in-loop-x-2
-offset_bounds-a-x-in-loop-x-2 c = omega (arith, in-slice c.before.before.before)
-
-pub bounds-a-x-in-loop-x-2 : goal.bounds-a-x-in-loop-x-2
-bounds-a-x-in-loop-x-2 c = omega (arith, in-slice c.before.before.before)
-
-pub overflow_add-a : goal.overflow_add-a
-overflow_add-a c = omega (arith, in-slice c.before.before.before)
-
-pub offset_bounds-a-x-in-loop-x-3 : goal.offset_bounds-a-x-in-loop-x-3
-offset_bounds-a-x-in-loop-x-3 c = omega (arith, in-slice c.before.before.before)
-
-pub bounds-a-x-in-loop-x-3 : goal.bounds-a-x-in-loop-x-3
-bounds-a-x-in-loop-x-3 c = omega (arith, in-slice c.before.before.before)
-
-pub overflow_add-x-in-loop-x : goal.overflow_add-x-in-loop-x
-overflow_add-x-in-loop-x c = omega (arith, in-slice c.before.before.before)
-
-pub loop-x-smaller : goal.loop-x-smaller
-loop-x-smaller c = omega (arith, c.loop-x-test.true)

@@ -8,6 +8,3 @@ use Rattle.pfaffian.proofs.pairs.eliminate_row.Given as goal
 abbrev pub invariant-loop-x : goal.invariant-loop-x
 invariant-loop-x l =
     ((l.k * l.dim + (l.k + 2) ≤ l.x) × (l.x ≤ l.k * l.dim + l.dim)) × PairRow l.k less_by (corner_from (l.k + 2)) l.dim l.i l.initial.a (l.x - l.k * l.dim) l.a
-
-abbrev pub decreases-loop-x : goal.decreases-loop-x
-decreases-loop-x l = l.k * l.dim + l.dim - l.x

@@ -21,8 +21,5 @@ loop-i-preserved c =
           c.eliminate_row.ensures,
     )
 
-pub shape_of-a : goal.shape_of-a
-shape_of-a c = c.loop-i.invariant.1.long
-
 pub returns : goal.returns
 returns c = sweep-done _ _ _ _ _ _ _ c.loop-i.invariant.1 (λ r' c' h g. omega arith)

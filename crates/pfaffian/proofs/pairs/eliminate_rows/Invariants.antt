@@ -1,5 +1,5 @@
 -- `pfaffian::pairs::eliminate_rows` meets its contract: each turn makes a row (`pair-more`). Assumes nothing.
-use Prim.Native.Nat.{◌≤◌, ◌-◌, ◌+◌}
+use Prim.Native.Nat.{◌≤◌, ◌+◌}
 use Rattle.laws.specs.Steps.{corner_from}
 use Rattle.laws.proofs.Eliminations.{Pair}
 use Rattle.pfaffian.specs.Turns.{less_by}
@@ -7,6 +7,3 @@ use Rattle.pfaffian.proofs.pairs.eliminate_rows.Given as goal
 
 abbrev pub invariant-loop-i : goal.invariant-loop-i
 invariant-loop-i l = ((l.k + 2 ≤ l.i) × (l.i ≤ l.dim)) × Pair l.k less_by (corner_from (l.k + 2)) l.dim l.initial.a l.i l.a
-
-abbrev pub decreases-loop-i : goal.decreases-loop-i
-decreases-loop-i l = l.dim - l.i

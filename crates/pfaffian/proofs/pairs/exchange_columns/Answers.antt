@@ -19,8 +19,5 @@ loop-r-preserved c =
           l.invariant.0.0 c.loop-r-test.true c.requires.inside.room l.invariant.1 c.exchange.ensures,
     )
 
-pub shape_of-a : goal.shape_of-a
-shape_of-a c = c.loop-r.invariant.1.long
-
 pub returns : goal.returns
 returns c = made by_row _ _ _ _ _ _ (λ r' c' h g. omega arith) c.loop-r.invariant.1

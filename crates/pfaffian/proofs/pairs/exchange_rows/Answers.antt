@@ -19,8 +19,5 @@ loop-c-preserved c =
           l.invariant.0.0 c.loop-c-test.true c.requires.inside.room l.invariant.1 c.exchange.ensures,
     )
 
-pub shape_of-a : goal.shape_of-a
-shape_of-a c = c.loop-c.invariant.1.long
-
 pub returns : goal.returns
 returns c = made by_col _ _ _ _ _ _ (λ r' c' h g. omega arith) c.loop-c.invariant.1

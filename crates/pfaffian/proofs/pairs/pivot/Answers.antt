@@ -1,15 +1,11 @@
 -- `pfaffian::pairs::pivot` meets its contract: what is left of the row gives what the whole row gives. Assumes nothing.
 use mathlib.Core.Path.{sym, ap, ◌∙◌}
 use native.Mathlib.Omega.{arith}
-use borrow.Author.Rules.{rules}
 use Rattle.laws.specs.Matrix.{at}
 use Rattle.num.specs.Order.{abs_of}
-use Rattle.pfaffian.proofs.Pivots.{search-start, search-larger, search-smaller, search-done}
+use Rattle.pfaffian.proofs.Pivots.{search-larger, search-smaller, search-done}
 use Rattle.pfaffian.proofs.pairs.pivot.Goals as goal
 use Rattle.pfaffian.proofs.pairs.pivot.Goals.{then-v-best, else-v-best}
-
-pub loop-j-init : goal.loop-j-init
-loop-j-init c = (search rules, omega arith, rw (c.abs-best.ensures, c.entry.ensures) (search-start _ _ _))
 
 pub loop-j-preserved : goal.loop-j-preserved
 loop-j-preserved c =

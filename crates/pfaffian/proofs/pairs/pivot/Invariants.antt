@@ -9,6 +9,3 @@ use Rattle.pfaffian.proofs.pairs.pivot.Given as goal
 abbrev pub invariant-loop-j : goal.invariant-loop-j
 invariant-loop-j l =
     ((l.k + 2 ≤ l.j) × (l.j ≤ l.dim)) × (l.piv < l.dim) × (pfaffian.search (at l.dim l.a l.k) (l.dim - l.j) l.j l.best l.piv ≡ pivot_of (at l.dim l.a l.k) l.k l.dim)
-
-abbrev pub decreases-loop-j : goal.decreases-loop-j
-decreases-loop-j l = l.dim - l.j

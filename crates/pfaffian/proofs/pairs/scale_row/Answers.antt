@@ -19,8 +19,5 @@ loop-j-preserved c =
           (λ s. div binary64 (c.entry-x.ensures s) c.args.akk) l.invariant.1 c.put.ensures,
     )
 
-pub shape_of-a : goal.shape_of-a
-shape_of-a c = c.loop-j.invariant.1.long
-
 pub returns : goal.returns
 returns c = sweep-done _ _ _ _ _ _ _ c.loop-j.invariant.1 (λ r' c' h g. omega arith)

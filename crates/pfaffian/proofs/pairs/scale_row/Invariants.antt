@@ -1,11 +1,8 @@
 -- `pfaffian::pairs::scale_row` meets its contract: each turn divides an entry (`scaled-more`). Assumes nothing.
-use Prim.Native.Nat.{◌≤◌, ◌-◌, ◌+◌}
+use Prim.Native.Nat.{◌≤◌, ◌+◌}
 use lib.Ieee.{binary64, div}
 use Rattle.laws.proofs.Eliminations.{Scaled}
 use Rattle.pfaffian.proofs.pairs.scale_row.Given as goal
 
 abbrev pub invariant-loop-j : goal.invariant-loop-j
 invariant-loop-j l = ((l.k + 2 ≤ l.j) × (l.j ≤ l.dim)) × Scaled (λ x. div binary64 x l.akk) l.k (l.k + 2) l.dim l.initial.a l.j l.a
-
-abbrev pub decreases-loop-j : goal.decreases-loop-j
-decreases-loop-j l = l.dim - l.j

@@ -17,8 +17,5 @@ loop-e-preserved c =
           c.requires.inside.room (λ x. neg (c.entry-x.ensures x)) l.invariant.1 c.put.ensures,
     )
 
-pub shape_of-m : goal.shape_of-m
-shape_of-m c = c.loop-e.invariant.1.long
-
 pub returns : goal.returns
 returns c = sweep-done _ _ _ _ _ _ _ c.loop-e.invariant.1 (λ r' c' h g. omega arith)

@@ -1,8 +1,8 @@
 -- `pfaffian::shots::measure_modes` meets its contract: the matrix stands for the one that mode k finds (`stands-turn`). Assumes nothing.
-use mathlib.Core.Path.{◌≡◌, ap, sym, ◌∙◌}
+use mathlib.Core.Path.{ap, sym, ◌∙◌}
 use Prim.Native.Nat.{◌*◌}
+use native.Mathlib.Nat.{zero-add}
 use native.Mathlib.Omega.{arith}
-use borrow.Author.Rules.{rules}
 use lib.ListN.{get_or, length-set}
 use lib.Ieee.{nan}
 use Rattle.laws.specs.Matrix.{at}
@@ -15,32 +15,17 @@ use Rattle.pfaffian.proofs.shots.measure_modes.Goals as goal
 pub loop-k-init : goal.loop-k-init
 loop-k-init c = (omega arith, same _ _, stands-start _ _ _, listed_start _ _)
 
-pub measure-r-requires : goal.measure-r-requires
-measure-r-requires c = search rules
-
 pub loop-k-preserved : goal.loop-k-preserved
 loop-k-preserved c =
     let l = c.loop-k in
     let h = c.loop-k-test.true in
     let r = c.measure-r in
     let e = at (2 * c.args.n) c.args.m.now in
-    let d = draw_from c.args.draws.now c.args.first in
+    let d = draw_from c.args.draws.now 0 in
     let w = stands-turn (2 * c.args.n) l.k e d _ l.fresh _ _ l.m _
-    (ap (λ i. get_or c.args.draws.now i nan) l.invariant.0.1) l.invariant.2 r.ensures.plain in (
-      (omega arith, r.ensures.used ∙ rw l.invariant.0.1 (omega arith), length-set l.bits _ _ ∙ l.invariant.0.2),
+    (ap (λ i. get_or c.args.draws.now i nan) (sym (zero-add l.k))) l.invariant.2 r.ensures.plain in (
+      (omega arith, length-set l.bits _ _ ∙ l.invariant.0.1),
       kept_then _ _ l.m _ l.invariant.1 r.ensures.kept,
       w.1,
       listed-turn l.k _ _ l.bits _ (omega arith) (w.0 ∙ sym (shot-at e d c.args.n l.k h)) l.invariant.3,
     )
-
-pub shape_of-m : goal.shape_of-m
-shape_of-m c = c.loop-k.invariant.1.long
-
-pub shape_of-bits : goal.shape_of-bits
-shape_of-bits c = c.loop-k.invariant.0.2
-
-pub returns : goal.returns
-returns c =
-    let l = c.loop-k in
-    let z : l.k ≡ c.args.n = omega arith in
-    record { bits = rw z at l.invariant.3; kept = l.invariant.1 }

