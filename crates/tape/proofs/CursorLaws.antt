@@ -18,9 +18,9 @@ use Rattle.tape.specs.Gates.{gate_at}
 use Rattle.tape.specs.Parse.{Content, Parsed, refused, accepted, nothing, stepped, walk, parse, is_accepted, content_of, gates_of, places_of, labels_of, checked_of}
 use Rattle.tape.specs.Cursor.{Cursor, Stands}
 use Rattle.tape.specs.declared.header.Header.{Header}
-use Rattle.tape.specs.declared.record.Step.{Step}
+use Rattle.tape.specs.Step.{Step}
 use Rattle.tape.specs.declared.gates.Gate.{Gate}
-use Rattle.tape.specs.declared.check.Checked.TheVariants.{Good}
+use Rattle.tape.specs.Checked.{Good}
 use Rattle.tape.specs.declared.labels.Span.{Span}
 use Rattle.tape.proofs.RecordLaws.{LabelRecord, RecordIs, gate, label, end, bad, record_is}
 use Rattle.tape.proofs.HeaderLaws.{GoodHeader}

@@ -15,12 +15,12 @@ use Rattle.tape.specs.Header.{header_at, is_tolerance, header_marked, header_of}
 use Rattle.tape.specs.Records.{marked_at, code_at, gate_fault, sound, gate_record_at, label_bytes, label_record_at, record_at}
 use Rattle.tape.specs.Parse.{Parsed, refused, accepted, with_gate, with_label, stepped, walk, after_header, parse}
 use Rattle.tape.specs.declared.header.Header.{Header}
-use Rattle.tape.specs.declared.header.Headed.{Headed}
-use Rattle.tape.specs.declared.header.Headed.TheVariants as Head
+use Rattle.tape.specs.Headed.{Headed}
+use Rattle.tape.specs.Headed as Head
 use Rattle.tape.specs.declared.labels.Span.{Span}
 use Rattle.tape.specs.declared.gates.Gate.{Gate}
-use Rattle.tape.specs.declared.record.Step.{Step}
-use Rattle.tape.specs.declared.record.Step.TheVariants as Steps
+use Rattle.tape.specs.Step.{Step}
+use Rattle.tape.specs.Step as Steps
 
 -- what is so of both is so of the one that a test chooses
 either : {A : Type 0} (P : A → Type 0) (b : Bool) (x y : A) → P x → P y → P (cond b x y)

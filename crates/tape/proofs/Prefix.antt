@@ -22,9 +22,9 @@ use Rattle.tape.specs.Records.{marked_at, code_at, qubit_at, qubits_below, qubit
 use Rattle.tape.specs.Gates.{gate_at}
 use Rattle.tape.specs.Parse.{Parsed, refused, accepted, with_gate, with_label, after_header, parse}
 use Rattle.tape.specs.declared.header.Header.{Header}
-use Rattle.tape.specs.declared.header.Headed.TheVariants as Head
-use Rattle.tape.specs.declared.record.Step.{Step}
-use Rattle.tape.specs.declared.record.Step.TheVariants.{Label, End, Refused}
+use Rattle.tape.specs.Headed as Head
+use Rattle.tape.specs.Step.{Step}
+use Rattle.tape.specs.Step.{Label, End, Refused}
 use Rattle.tape.specs.declared.gates.Gate as Gates
 use Rattle.tape.specs.declared.labels.Span.{Span}
 use Rattle.tape.proofs.CodeLaws.{qubits-few, gate-parts, gate-longest}

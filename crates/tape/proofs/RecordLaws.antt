@@ -13,8 +13,8 @@ use Rattle.tape.specs.Bounds.{max_gates, max_label, mark_byte, gate_mark, label_
 use Rattle.tape.specs.Codes.{qubits_of, floats_of, gate_length}
 use Rattle.tape.specs.Records.{marked_at, code_at, entries_at, qubits_below, qubits_differ, entries_small, gate_fault, sound, gate_record_at, label_bytes, label_record_at, record_at}
 use Rattle.tape.specs.Gates.{WholeGate}
-use Rattle.tape.specs.declared.record.Step.{Step}
-use Rattle.tape.specs.declared.record.Step.TheVariants.{Gate, Label, End, Refused}
+use Rattle.tape.specs.Step.{Step}
+use Rattle.tape.specs.Step.{Gate, Label, End, Refused}
 
 -- ---- what a record is
 

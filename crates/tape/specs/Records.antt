@@ -7,8 +7,8 @@ use Rattle.num.specs.Bits.{byte_at, f64_at}
 use Rattle.num.specs.Order.{abs_of}
 use Rattle.tape.specs.Bounds.{max_gates, max_label, max_entry, mark_byte, gate_mark, label_mark, leading}
 use Rattle.tape.specs.Codes.{qubits_of, floats_of, gate_length}
-use Rattle.tape.specs.declared.record.Step.{Step}
-use Rattle.tape.specs.declared.record.Step.TheVariants.{Gate, Label, End, Refused}
+use Rattle.tape.specs.Step.{Step}
+use Rattle.tape.specs.Step.{Gate, Label, End, Refused}
 
 -- "Every record begins with a two-byte mark": 51 and k stand at i
 unfoldable pub marked_at : List ℕ → ℕ → ℕ → Bool

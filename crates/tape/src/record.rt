@@ -1,35 +1,31 @@
 // One record at an offset of the tape: the questions 4 to 8, in their order.
-ghost use Rattle.std.specs.Prelude.{◌≡◌, ◌+◌, ◌*◌, ◌<◌, ◌≤◌, length};
+ghost use Rattle.std.specs.Prelude.{ℕ, ◌≡◌, ◌+◌, ◌*◌, ◌<◌, ◌≤◌, length};
 ghost use Rattle.tape.specs.Codes.{gate_length};
-ghost use Rattle.tape.specs.Records.{marked_at, code_at, qubit_at, qubits_below, qubits_differ, small_entry, entries_small, gate_fault, gate_record_at, label_bytes, label_record_at, record_at};
+ghost use Rattle.tape.specs.Records.{marked_at, code_at, qubit_at, qubits_below, qubits_differ, small_entry, entries_small};
+ghost use Rattle.tape.specs.Records.{gate_fault, sound, gate_record_at, label_bytes, label_record_at, record_at};
+ghost use Rattle.tape.specs.Told.{told_gate, told_found, told_step};
 
 use crate::bounds::{
     GATE_MARK, LABEL_MARK, LEADING, MARK, MAX_ENTRY, MAX_GATES, MAX_LABEL, byte_at,
 };
 use crate::codes::{floats_of, gate_length, qubits_of};
+use crate::fault::Fault;
+use crate::labels::Span;
 
-// What stands at an offset: a gate and where the next record starts, a label and where its bytes
-// start and end (the next record starts there), the tape's end, or a refusal.
+// A gate and where the next record starts, or a label's bytes: the next record starts at their end.
 #[derive(Clone, Copy)]
-pub enum Step {
+pub enum Record {
     Gate { next: usize },
-    Label { start: usize, end: usize },
-    End,
-    Refused { number: u32, place: usize },
+    Label(Span),
 }
 
 // Whether the mark of a kind of record stands at `at`.
+#[tactic(auto, using(crate::proofs::Asked::nat), unfolding(crate::specs::Records::marked_at))]
 fn marked(t: &[u8], at: usize, kind: usize) -> bool
     requires { at < length t.now }
     ensures { result ≡ marked_at t.now at kind }
 {
-    if t.len() - at < 2 {
-        return false;
-    }
-    if byte_at(t, at) == MARK {
-        return byte_at(t, at + 1) == kind;
-    }
-    false
+    t.len() - at >= 2 && byte_at(t, at) == MARK && byte_at(t, at + 1) == kind
 }
 
 // The qubit number j of the gate at `at`.
@@ -45,17 +41,16 @@ fn qubits_below(t: &[u8], at: usize, k: usize, n: usize) -> bool
     requires { at + 3 + k ≤ length t.now }
     ensures { result ≡ qubits_below t.now at k n }
 {
-    let mut j = 0;
-    while j < k {
+    for j in 0..k {
         if qubit_at(t, at, j) >= n {
             return false;
         }
-        j += 1;
     }
     true
 }
 
 // Question 7, for k qubits.
+#[tactic(auto, using(crate::proofs::Asked::nat), unfolding(crate::specs::Records::qubits_differ))]
 fn qubits_differ(t: &[u8], at: usize, k: usize) -> bool
     requires { at + 3 + k ≤ length t.now }
     ensures { result ≡ qubits_differ t.now at k }
@@ -65,17 +60,11 @@ fn qubits_differ(t: &[u8], at: usize, k: usize) -> bool
     }
     let a = qubit_at(t, at, 0);
     let b = qubit_at(t, at, 1);
-    if a == b {
-        return false;
-    }
     if k < 3 {
-        return true;
+        return a != b;
     }
     let c = qubit_at(t, at, 2);
-    if a == c {
-        return false;
-    }
-    b != c
+    a != b && a != c && b != c
 }
 
 // A NaN and the infinities fail the test.
@@ -90,75 +79,53 @@ fn entries_small(t: &[u8], at: usize, k: usize) -> bool
     requires { at + 8 * k ≤ length t.now }
     ensures { result ≡ entries_small t.now at k }
 {
-    let mut j = 0;
-    while j < k {
-        let x = num::f64_at(t, at + 8 * j);
-        if small_entry(x) {
-            j += 1;
-        } else {
+    for j in 0..k {
+        if !small_entry(num::f64_at(t, at + 8 * j)) {
             return false;
         }
     }
     true
 }
 
-// The first of the questions 6 to 8 that a whole gate does not pass, 0 if it passes them.
-fn gate_fault(t: &[u8], at: usize, n: usize) -> u32
+// The questions 6 to 8, of a whole gate.
+#[tactic(auto, using(crate::proofs::Asked::nat), unfolding(crate::specs::Records::gate_fault, crate::specs::Records::sound, crate::specs::Codes::gate_length))]
+fn check_gate(t: &[u8], at: usize, n: usize) -> Result<(), Fault>
     requires { at + gate_length (code_at t.now at) ≤ length t.now }
-    ensures { result ≡ gate_fault t.now at n }
+    ensures { (next : ℕ) → told_gate next result ≡ sound (gate_fault t.now at n) at next }
 {
     let code = byte_at(t, at + 2);
     let k = qubits_of(code);
-    if qubits_below(t, at, k, n) {
-        if qubits_differ(t, at, k) {
-            if entries_small(t, at + LEADING + k, floats_of(code)) {
-                return 0;
-            }
-            return 8;
-        }
-        return 7;
+    if !qubits_below(t, at, k, n) {
+        return Err(Fault::BadQubit(at));
     }
-    6
+    if !qubits_differ(t, at, k) {
+        return Err(Fault::SameQubit(at));
+    }
+    if !entries_small(t, at + LEADING + k, floats_of(code)) {
+        return Err(Fault::LargeEntry(at));
+    }
+    Ok(())
 }
 
 // A record that begins 51 47.
-fn gate_record(t: &[u8], at: usize, n: usize, gates: usize) -> Step
+#[tactic(auto, using(crate::proofs::Asked::nat), unfolding(crate::specs::Records::gate_record_at, crate::specs::Records::sound))]
+fn gate_record(t: &[u8], at: usize, n: usize, gates: usize) -> Result<Record, Fault>
     requires { at < length t.now }
-    ensures { result ≡ gate_record_at t.now at n gates }
+    ensures { told_found result ≡ gate_record_at t.now at n gates }
 {
-    if MAX_GATES <= gates {
-        return Step::Refused {
-            number: 4,
-            place: at,
-        };
+    if gates >= MAX_GATES {
+        return Err(Fault::ManyGates(at));
     }
     if t.len() - at < LEADING {
-        return Step::Refused {
-            number: 5,
-            place: at,
-        };
+        return Err(Fault::BadRecord(at));
     }
-    let after = at + 2; // the mark
-    let code = byte_at(t, after);
-    if qubits_of(code) == 0 {
-        return Step::Refused {
-            number: 5,
-            place: at,
-        };
-    }
+    let code = byte_at(t, at + 2);
     let length = gate_length(code);
-    if t.len() - at < length {
-        return Step::Refused {
-            number: 5,
-            place: at,
-        };
+    if qubits_of(code) == 0 || t.len() - at < length {
+        return Err(Fault::BadRecord(at));
     }
-    let number = gate_fault(t, at, n);
-    let place = at;
-    if number == 0 {
-        return Step::Gate { next: at + length };
-    }
-    Step::Refused { number, place }
+    check_gate(t, at, n)?;
+    Ok(Record::Gate { next: at + length })
 }
 
 // Whether each of the k bytes from `start` on is from 20 to 7E.
@@ -166,72 +133,49 @@ fn label_bytes(t: &[u8], start: usize, k: usize) -> bool
     requires { start + k ≤ length t.now }
     ensures { result ≡ label_bytes t.now start k }
 {
-    let mut j = 0;
-    while j < k {
+    for j in 0..k {
         let b = byte_at(t, start + j);
-        if b < 0x20 {
+        if b < 0x20 || b > 0x7e {
             return false;
         }
-        if b > 0x7e {
-            return false;
-        }
-        j += 1;
     }
     true
 }
 
 // A record that begins 51 4C.
-fn label_record(t: &[u8], at: usize) -> Step
+#[tactic(auto, using(crate::proofs::Asked::nat), unfolding(crate::specs::Records::label_record_at))]
+fn label_record(t: &[u8], at: usize) -> Result<Record, Fault>
     requires { at < length t.now }
-    ensures { result ≡ label_record_at t.now at }
+    ensures { told_found result ≡ label_record_at t.now at }
 {
     if t.len() - at < LEADING {
-        return Step::Refused {
-            number: 5,
-            place: at,
-        };
+        return Err(Fault::BadRecord(at));
     }
     let k = byte_at(t, at + 2);
-    if k > MAX_LABEL {
-        return Step::Refused {
-            number: 5,
-            place: at,
-        };
-    }
     let start = at + LEADING;
-    if t.len() - start < k {
-        return Step::Refused {
-            number: 5,
-            place: at,
-        };
+    if k > MAX_LABEL || t.len() - start < k || !label_bytes(t, start, k) {
+        return Err(Fault::BadRecord(at));
     }
-    if label_bytes(t, start, k) {
-        return Step::Label {
-            start,
-            end: start + k,
-        };
-    }
-    Step::Refused {
-        number: 5,
-        place: at,
-    }
+    Ok(Record::Label(Span {
+        start,
+        end: start + k,
+    }))
 }
 
-// The record at `at`, wherever that is, on a tape of n qubits and with so many gates before it.
-pub fn record_at(t: &[u8], at: usize, n: usize, gates: usize) -> Step
-    ensures { result ≡ record_at t.now at n gates }
+// The record at `at`, wherever that is, on a tape of n qubits and with so many gates before it: none
+// where the tape ends.
+#[tactic(auto, using(crate::proofs::Asked::nat), unfolding(crate::specs::Records::record_at))]
+pub fn record_at(t: &[u8], at: usize, n: usize, gates: usize) -> Result<Option<Record>, Fault>
+    ensures { told_step result ≡ record_at t.now at n gates }
 {
-    if t.len() <= at {
-        return Step::End;
+    if at >= t.len() {
+        return Ok(None);
     }
     if marked(t, at, GATE_MARK) {
-        return gate_record(t, at, n, gates);
+        return Ok(Some(gate_record(t, at, n, gates)?));
     }
     if marked(t, at, LABEL_MARK) {
-        return label_record(t, at);
+        return Ok(Some(label_record(t, at)?));
     }
-    Step::Refused {
-        number: 5,
-        place: at,
-    }
+    Err(Fault::BadRecord(at))
 }

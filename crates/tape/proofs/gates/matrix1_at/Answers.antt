@@ -10,13 +10,13 @@ use Rattle.tape.proofs.gates.matrix1_at.Goals as goal
 pub byte_at-code-requires : goal.byte_at-code-requires
 byte_at-code-requires c = omega (arith, gate-room _ _ _ c.requires)
 
-pub given2-requires : goal.given2-requires
-given2-requires c = omega (arith, given2-room _ _ _ c.requires (sym c.byte_at-code.ensures.0 ∙ c.if-code-eq-GIVEN_2.true))
+pub given-requires : goal.given-requires
+given-requires c = omega (arith, given2-room _ _ _ c.requires (sym c.byte_at-code.ensures.0 ∙ c.if-code-eq-GIVEN_2.true))
 
 pub returns-then-code-eq-GIVEN_2 : goal.returns-then-code-eq-GIVEN_2
 unfolding matrix1_at
 returns-then-code-eq-GIVEN_2 c =
-    rw (c.requires.code, ← c.byte_at-code.ensures.0, eq-eqb _ _ c.if-code-eq-GIVEN_2.true, c.given2.ensures)
+    rw (c.requires.code, ← c.byte_at-code.ensures.0, eq-eqb _ _ c.if-code-eq-GIVEN_2.true, c.given.ensures)
 
 pub matrix_1q-requires : goal.matrix_1q-requires
 matrix_1q-requires c =

@@ -10,13 +10,13 @@ use Rattle.tape.proofs.gates.matrix2_at.Goals as goal
 pub byte_at-code-requires : goal.byte_at-code-requires
 byte_at-code-requires c = omega (arith, gate-room _ _ _ c.requires)
 
-pub given4-requires : goal.given4-requires
-given4-requires c = omega (arith, given4-room _ _ _ c.requires (sym c.byte_at-code.ensures.0 ∙ c.if-code-eq-GIVEN_4.true))
+pub given-requires : goal.given-requires
+given-requires c = omega (arith, given4-room _ _ _ c.requires (sym c.byte_at-code.ensures.0 ∙ c.if-code-eq-GIVEN_4.true))
 
 pub returns-then-code-eq-GIVEN_4 : goal.returns-then-code-eq-GIVEN_4
 unfolding matrix2_at
 returns-then-code-eq-GIVEN_4 c =
-    rw (c.requires.code, ← c.byte_at-code.ensures.0, eq-eqb _ _ c.if-code-eq-GIVEN_4.true, c.given4.ensures)
+    rw (c.requires.code, ← c.byte_at-code.ensures.0, eq-eqb _ _ c.if-code-eq-GIVEN_4.true, c.given.ensures)
 
 pub matrix_2q-requires : goal.matrix_2q-requires
 matrix_2q-requires c =

@@ -1,10 +1,14 @@
--- `tape::labels::label_span` meets its contract: the part that `find_label` finds, the empty part at the start where the tape is refused. Assumes nothing.
-use mathlib.Core.Path.{sym}
-use Rattle.tape.proofs.WalkLaws.{checked-good, span-refused}
+-- `tape::labels::label_span` meets its contract: the label that one reading finds lies in the tape. Assumes nothing.
+use mathlib.Core.Path.{◌≡◌, sym, subst}
+use Rattle.std.proofs.Common.{rules}
+use Rattle.tape.specs.Labels.{span_of}
+use Rattle.tape.specs.declared.labels.Span.{Span}
+use Rattle.tape.proofs.Reading.{Inside, label_inside}
 use Rattle.tape.proofs.labels.label_span.Goals as goal
 
-pub find_label-requires : goal.find_label-requires
-find_label-requires c = checked-good _ _ _ _ (sym c.in-Good.ensures)
-
-pub returns-in-Refused-clause-value : goal.returns-in-Refused-clause-value
-returns-in-Refused-clause-value c = sym (span-refused _ _ _ c.args.which (sym c.in-Refused.ensures))
+pub returns-in-Ok-clause-inside : goal.returns-in-Ok-clause-inside
+returns-in-Ok-clause-inside c =
+    let t = c.args.tape.now in
+    let P : Span → Type 0 = Inside t in
+    let e : c.unwrap_or.result ≡ span_of t c.args.which = search rules in
+    subst P (sym e) (label_inside t c.args.which)
