@@ -18,8 +18,7 @@ use Rattle.state.specs.Bounds.{dim_of}
 use Rattle.state.specs.Operation.{decode_of, Fits}
 use Rattle.state.specs.Calls.{decoded_state}
 use Rattle.state.specs.declared.operation.Operation as state
-use Rattle.state.specs.declared.operation.Decoded.{Decoded}
-use Rattle.state.specs.declared.operation.Decoded.TheVariants.{Good, Bad}
+use Rattle.std.proofs.Common.{Option, Some, None}
 use Rattle.state.proofs.Operations.{decode-fits}
 use Rattle.state.proofs.Steps.{applied-more}
 use Rattle.evolve.specs.Evolve.{decoded_effect, evolved_from, evolved, evolved_in}
@@ -38,11 +37,11 @@ evolved-more n (suc k) l t =
 
 -- ---- in the slice of the state
 
-pub decoded-more : (n : ℕ) (d : Decoded) (t : State) (s₀ s : List Float) → state_places (dim_of n) ≤ length s₀ → ((o : state.Operation) → d ≡ Good o → Fits n o)
+pub decoded-more : (n : ℕ) (d : Option state.Operation) (t : State) (s₀ s : List Float) → state_places (dim_of n) ≤ length s₀ → ((o : state.Operation) → d ≡ Some o → Fits n o)
     → s ≡ stored (dim_of n) t s₀ → decoded_state n s d ≡ stored (dim_of n) (decoded_effect d t) s₀
 unfolding decoded_state decoded_effect
-decoded-more n (Good o) t s₀ s room fits e = applied-more n o t s₀ s room (fits o refl) e
-decoded-more n Bad t s₀ s room fits e = e
+decoded-more n (Some o) t s₀ s room fits e = applied-more n o t s₀ s room (fits o refl) e
+decoded-more n None t s₀ s room fits e = e
 
 -- a slice that holds a state is made no different by storing it there again
 pub stored-again : (dim : ℕ) (t : State) (s₀ s : List Float) → state_places dim ≤ length s₀ → s ≡ stored dim t s₀ → s ≡ stored dim t s

@@ -18,8 +18,8 @@ use Rattle.tape.specs.declared.header.Header.{Header}
 use Rattle.tape.specs.declared.gates.Gate.{Gate}
 use Rattle.majorana.specs.Majorana.{majorana_map2_of}
 use Rattle.classify.specs.Diagonal.{phase_a_of, phase_b_of, interaction_of, unit_of, rotation_of}
-use Rattle.classify.specs.declared.diagonal.Rotation.{Rotation}
-use Rattle.classify.specs.declared.diagonal.Rotation.TheVariants.{By, Nothing}
+use Rattle.std.specs.Prelude.{Option, Some, None}
+use Rattle.real.specs.declared.maps.Map2.{Map2}
 use Rattle.order.specs.Arrangement.{abs_diff_of, beside_of}
 use Rattle.order.proofs.Permutation.{order-permutes}
 use Rattle.resolve.specs.Items as Items
@@ -31,12 +31,11 @@ use Rattle.detect.specs.Report.{free_of}
 use Rattle.detect.specs.Compile.{reorders_of, match_pairs, items_of, order_of, mode_of_wire, tape_counts, program_of}
 use Rattle.detect.proofs.Wires.{wires-items}
 use Rattle.state.specs.Operation.{decode_of, Fits}
-use Rattle.state.specs.declared.operation.Decoded.TheVariants.{Good}
 use Rattle.evolve.specs.Evolve.{read_back, AllFit}
 use Rattle.evolve.proofs.Decoding.{decode-one, decode-two, decode-interaction}
 
 -- such an operation is decoded
-pub fits-decodes : (n : ℕ) (o : Operation) → n ≤ max_qubits → Fits n (read_back o) → decode_of n (places_of o) ≡ Good (read_back o)
+pub fits-decodes : (n : ℕ) (o : Operation) → n ≤ max_qubits → Fits n (read_back o) → decode_of n (places_of o) ≡ Some (read_back o)
 unfolding Fits
 fits-decodes n (one k q) m f = decode-one n k q f m
 fits-decodes n (two k q) m f = decode-two n k q f m
@@ -45,10 +44,10 @@ fits-decodes n (interaction k block second w) m f = decode-interaction n k block
 module _ (n : ℕ) where
   -- ---- what an item becomes
 
-  rotated-fits : (k : ℕ) (x : Rotation) → k < n → AllFit n (rotated k x)
+  rotated-fits : (k : ℕ) (x : Option Map2) → k < n → AllFit n (rotated k x)
   unfolding Fits
-  rotated-fits k (By q) h = (h, tt)
-  rotated-fits k Nothing h = tt
+  rotated-fits k (Some q) h = (h, tt)
+  rotated-fits k None h = tt
 
   rotations-fit : (i j : ℕ) (v : Mat4) → i < n → j < n → AllFit n (rotations_of i j v)
   unfolding rotations_of

@@ -1,6 +1,6 @@
 -- A program run on the vacuum (001, `evolve`): its operations in order, each as `apply` decodes its 18 places. Definitions only.
 -- A public promise rests on this.
-use Rattle.std.specs.Prelude.{List, [], ◌∷◌, ℕ, zero, suc, take, drop, Float}
+use Rattle.std.specs.Prelude.{Option, Some, None, List, [], ◌∷◌, ℕ, zero, suc, take, drop, Float}
 use Rattle.laws.specs.Lists.{All}
 use Rattle.laws.specs.Bounds.{op_places}
 use Rattle.detect.specs.Operation.{Operation, one, two, interaction, places_of}
@@ -8,13 +8,11 @@ use Rattle.local.specs.State.{State, vacuum}
 use Rattle.state.specs.Operation.{interaction_at, decode_of, effect, Fits}
 use Rattle.state.specs.declared.operation.Operation as state
 use Rattle.state.specs.declared.operation.Operation.TheVariants.{One, Two}
-use Rattle.state.specs.declared.operation.Decoded.{Decoded}
-use Rattle.state.specs.declared.operation.Decoded.TheVariants.{Good, Bad}
 
 -- what an operation does to the state. One that question 17 would turn down does nothing; a program has none (law `program-fits`)
-unfoldable pub decoded_effect : Decoded → State → State
-decoded_effect (Good o) t = effect o t
-decoded_effect Bad t = t
+unfoldable pub decoded_effect : Option state.Operation → State → State
+decoded_effect (Some o) t = effect o t
+decoded_effect None t = t
 
 -- the operations in order, on n modes
 unfoldable pub evolved_from : ℕ → List Operation → State → State

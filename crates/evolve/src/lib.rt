@@ -21,10 +21,10 @@ pub fn evolve(n: usize, count: usize, ops: &[f64], state: &mut [f64])
     ensures { state.new ≡ stored (dim_of n) (evolved_in n count ops.now spec.vacuum) state.old }
 {
     vacuum(n, state);
-    let mut i = 0;
-    while i < count {
+    for i in 0..count {
+        // by its place, and not by chunks, since the slice may hold more than `count` operations
         let a = OP_PLACES * i;
-        apply_places(n, state, ops[a], ops[a + 1], &ops[a..a + OP_PLACES]);
-        i += 1;
+        // a program has no operation that question 17 turns down, and one that it does would change nothing
+        let _answer = apply_places(n, state, ops[a], ops[a + 1], &ops[a..a + OP_PLACES]);
     }
 }

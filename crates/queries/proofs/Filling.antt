@@ -1,41 +1,37 @@
 -- Laws of a matrix that is laid into work: a whole one, row by row; halved entries; a pair of entries a turn; and that matrices which are alike have
 -- the same Pfaffian. Assumes nothing.
-use mathlib.Core.Path.{◌≡◌, refl, sym, ◌∙◌}
+use mathlib.Core.Path.{◌≡◌, refl, sym, ap, ◌∙◌}
 use mathlib.Core.Logic.{◌⊎◌, inl, inr, ◌≢◌}
 use mathlib.Core.Bool.{false, ◌&&◌}
-use mathlib.Core.List.{List}
-use Prim.Native.Nat.{ℕ, ◌+◌, ◌*◌, ◌/◌, ◌%◌, ◌≤◌, ◌<◌}
+use mathlib.Core.List.{List, [], ◌∷◌, ◌++◌, map}
+use Prim.Native.Nat.{ℕ, zero, suc, ◌+◌, ◌*◌, ◌/◌, ◌%◌, ◌≤◌, ◌<◌}
 use native.Mathlib.Nat.{le_of_eq}
 use native.Mathlib.Omega.{arith}
 use lib.Dec.{eqb}
-use lib.ListN.{length, get_or, set, length-set}
+use lib.ListN.{length, take, drop, get_or, set, length-set}
 use lib.Ieee.{Float, nan, binary64, add, sub}
 use borrow.Author.Tests.{eq-eqb, ne_eqb}
 use Rattle.laws.specs.Slices.{mapped_to}
 use Rattle.laws.specs.Matrix.{Mat, at, matrix, Is}
 use Rattle.laws.specs.Steps.{masked, in_row}
 use Rattle.laws.specs.Loops.{up_to, by_row, by_col}
-use Rattle.laws.specs.Bounds.{max_qubits}
 use Rattle.laws.proofs.Cases.{eq-or-ne}
 use Rattle.laws.proofs.Slices.{length-mapped, mapped-done, mapped-left}
 use Rattle.laws.proofs.Matrix.{place_in, is-matrix, matrix-is, at_set_same, at_set_other, after-set}
 use Rattle.laws.proofs.Loops.{more, up_left}
 use Rattle.laws.proofs.Sweep.{Swept, masked_on, sweep-start, sweep-store, sweep-row, sweep-done}
 use Rattle.queries.specs.Products.{index_of}
-use Rattle.queries.specs.Inner.{Modes, everywhere}
+use Rattle.queries.specs.Inner.{Below, everywhere}
 use Rattle.queries.specs.Marginals.{shifted}
 
 -- ---- the state's row for a row of the modes' matrix
 
-module _ {n dim : ℕ} {list : List ℕ} (w : Modes n dim list) (r : ℕ) (h : r < dim) where
+module _ (n : ℕ) (list : List ℕ) (w : Below n list) (r : ℕ) (h : r < 2 * length list) where
   pub index-fits : r / 2 < length list
-  index-fits = omega (arith, w.fits)
+  index-fits = omega arith
 
-  row-mode : get_or list (r / 2) 0 < n
-  row-mode = w.below (r / 2) (omega arith)
-
-  pub index-small : n ≤ max_qubits → get_or list (r / 2) 0 ≤ max_qubits
-  index-small few = omega (arith, row-mode)
+  pub row-mode : get_or list (r / 2) 0 < n
+  row-mode = w (r / 2) index-fits
 
   pub index_below : index_of list r < 2 * n
   index_below = omega (arith, row-mode)
@@ -81,6 +77,16 @@ module _ (new : Mat) (dim : ℕ) where
       (record { long = v.long; each = λ r c g k. v.each r c g k ∙ masked_on everywhere new (at dim m₀) r c refl; after = v.after })
 
 -- ---- every entry made anew by itself
+
+-- f of the first n places, as a part of the slice
+pub mapped-front : {A : Type 0} (f : A → A) (n : ℕ) (l ys : List A) → ys ≡ map f (take n l) → ys ++ drop n l ≡ mapped_to f n l
+unfolding mapped_to
+mapped-front {A = A} f n l ys e = ap (λ t. t ++ drop n l) e ∙ by n l
+  where
+    by : (n : ℕ) (l : List A) → map f (take n l) ++ drop n l ≡ mapped_to f n l
+    by zero l = refl
+    by (suc n) [] = refl
+    by (suc n) (x ∷ l) = ap (λ t. f x ∷ t) (by n l)
 
 pub mapped-is : (f : Float → Float) (dim : ℕ) (m₀ m : List Float) → dim * dim ≤ length m₀ → m ≡ mapped_to f (dim * dim) m₀
     → Is dim m₀ (λ r c. f (at dim m₀ r c)) m

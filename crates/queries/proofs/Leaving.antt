@@ -1,4 +1,4 @@
--- Laws of the modes left: their matrix by an array in which they are listed, its Pfaffian and the work it leaves; question 20; and marks that are
+-- Laws of the modes left: their matrix, its Pfaffian and the work it leaves; question 20; and marks that are
 -- alike give the same probability. Assumes nothing.
 use mathlib.Core.Path.{◌≡◌, ap, ◌∙◌}
 use mathlib.Core.Bool.{true, false, cond, ◌&&◌}
@@ -20,7 +20,6 @@ use Rattle.queries.specs.Lists.{noted_modes}
 use Rattle.queries.specs.Products.{restricted, dim_left}
 use Rattle.queries.specs.Marginals.{is_one, half_spin_of, shifted, halved, asked_matrix, sign_of, at_least_zero_of, marked_of}
 use Rattle.queries.specs.Calls.{work_ok, cleared, marked_answer, marked_work, worked, worked_work}
-use Rattle.queries.specs.Inner.{Listed}
 use Rattle.queries.proofs.Searches.{odd-same, passing-same, passing-ascends}
 use Rattle.queries.proofs.Filling.{mapped-is}
 
@@ -51,37 +50,25 @@ ask-made dim R s w₀ w₁ w₂ w₃ room e₁ e₂ e₃ =
         λ t. cond (eqb (r % 2) 0 && eqb c (r + 1)) (add binary64 (x t) (s (r / 2)))
         (cond (eqb (c % 2) 0 && eqb r (c + 1)) (sub binary64 (x t) (s (r / 2))) (x t))
 
--- ---- modes listed in an array
+-- ---- the modes left, l, in a list of `count` places
 
-module _ (l : List ℕ) (count : ℕ) (array : List ℕ) (w : Listed l count array) where
-  mode-same : (r : ℕ) → r < 2 * count → get_or array (r / 2) 0 ≡ get_or l (r / 2) 0
-  mode-same r h = w.each (r / 2) (omega arith)
-
+module _ (l : List ℕ) (count : ℕ) (list : List ℕ) (long : length list ≡ count) (same : list ≡ l) where
   dim-same : 2 * count ≡ dim_left l
-  dim-same = omega (arith, w.size)
+  dim-same = rw (← long, same)
 
-  pub restricted-listed : (e : Mat) (r c : ℕ) → r < 2 * count → c < 2 * count → restricted e array r c ≡ restricted e l r c
-  restricted-listed e r c h g = λ t. e (2 * mode-same r h t + r % 2) (2 * mode-same c g t + c % 2)
-
-  pub asked-listed : (e : Mat) (mark : ℕ → ℕ) (r c : ℕ) → r < 2 * count → c < 2 * count → asked_matrix e mark array r c ≡ asked_matrix e mark l r c
-  asked-listed e mark r c h g =
-      let x : halved (restricted e array) r c ≡ halved (restricted e l) r c = ap (mul binary64 half) (restricted-listed e r c h g) in
-      λ t. cond (eqb (r % 2) 0 && eqb c (r + 1)) (add binary64 (x t) (half_spin_of (mark (mode-same r h t))))
-      (cond (eqb (c % 2) 0 && eqb r (c + 1)) (sub binary64 (x t) (half_spin_of (mark (mode-same r h t)))) (x t))
-
-  -- a matrix that the array's modes and the list's make alike: its Pfaffian, and the work when it is cleared
-  module _ (F : List ℕ → Mat) (same : (r c : ℕ) → r < 2 * count → c < 2 * count → F array r c ≡ F l r c) (w₀ w₁ : List Float)
-      (room : 2 * count * (2 * count) ≤ length w₀) (e : w₁ ≡ matrix (2 * count) (F array) w₀) where
-    laid : Is (2 * count) w₀ (F array) w₁
-    laid = matrix-is (2 * count) w₀ (F array) w₁ room e
+  -- the Pfaffian of a matrix of theirs that is laid into work, and the work when it is cleared
+  module _ (F : List ℕ → Mat) (w₀ w₁ : List Float) (room : 2 * count * (2 * count) ≤ length w₀)
+      (e : w₁ ≡ matrix (2 * length list) (F list) w₀) where
+    laid : Is (2 * count) w₀ (F l) w₁
+    laid = matrix-is (2 * count) w₀ (F l) w₁ room (e ∙ (λ t. matrix (2 * long t) (F (same t)) w₀))
 
     pub value-left : pfaffian_of (2 * count) (at (2 * count) w₁) ≡ pfaffian_of (dim_left l) (F l)
     value-left =
-        pfaffian-same (at (2 * count) w₁) (F l) (2 * count) (λ i j li hi lj hj. laid.each i j hi hj ∙ same i j hi hj)
+        pfaffian-same (at (2 * count) w₁) (F l) (2 * count) (λ i j li hi lj hj. laid.each i j hi hj)
         ∙ ap (λ d. pfaffian_of d (F l)) dim-same
 
     pub work-left : cleared (2 * count) w₁ ≡ cleared (dim_left l) w₀
-    work-left = filled_is (2 * count) +0 w₀ w₁ (F array) laid ∙ ap (λ d. cleared d w₀) dim-same
+    work-left = filled_is (2 * count) +0 w₀ w₁ (F l) laid ∙ ap (λ d. cleared d w₀) dim-same
 
   -- ---- question 20
 

@@ -3,46 +3,54 @@ use mathlib.Core.Path.{◌≡◌, refl, sym, ap, ◌∙◌}
 use mathlib.Core.Logic.{◌⊎◌, inl, inr, ◌≢◌}
 use mathlib.Core.Bool.{Bool, true, false, not, cond, ◌&&◌}
 use mathlib.Core.List.{List}
-use Prim.Native.Nat.{ℕ, zero, suc, ◌+◌, ◌-◌, ◌*◌, ◌≤◌, ◌<◌}
+use Rattle.std.proofs.Common.{Option, Some, None}
+use Prim.Native.Nat.{ℕ, zero, suc, ◌+◌, ◌≤◌, ◌<◌}
 use native.Mathlib.Numerals.{add-one}
 use native.Mathlib.Omega.{arith}
 use lib.Dec.{eqb, leb, ltb}
-use lib.ListN.{length, get_or, set, length-set, replicate, length-replicate, get_or-replicate}
+use lib.ListN.{take, length, get_or, set, length-set, replicate, length-replicate, get_or-replicate}
 use lib.Seq.{get_or-set_same, get_or-set_other}
 use borrow.Author.Tests.{eq-eqb, ne_eqb, eqb-true, lt-ltb, leb-true}
 use Rattle.laws.specs.Tests.{all_below}
+use Rattle.std.proofs.lemmas.List.{length-take-le, get_or-take}
 use Rattle.laws.specs.Bounds.{max_qubits}
 use Rattle.laws.proofs.Cases.{eq-or-ne}
 use Rattle.laws.proofs.Tests.{and_left, and_right, all-each}
 use Rattle.pfaffian.specs.Shot.{bit}
-use Rattle.laws.specs.Tables.{mode_at}
-use Rattle.state.specs.Bounds.{dim_of}
-use Rattle.state.specs.Modes.{is_permutation}
-use Rattle.state.proofs.Permutations.{mode-below}
-use Rattle.state.proofs.Questions.{square-few}
-use Rattle.queries.specs.Lists.{odd_modes, mode_listed, odd_mode, noted, conflicts_of, contradicts, bits_ok, noted_modes}
-use Rattle.queries.specs.Inner.{Marked, Listed, Modes}
+use Rattle.queries.specs.Lists.{odd_modes, mode_listed, odd_mode, noted, conflicts_of, contradicts, bits_ok, passing}
+use Rattle.std.specs.Option.{is_some, unwrap_or}
+use Rattle.queries.specs.Marginals.{is_one}
+use Rattle.queries.specs.Inner.{Marked, Odd, Asked, mark_of, Below}
 use Rattle.queries.proofs.Searches.{odd-on, odd-off, passing-same, passing-ascends}
 
 -- ---- one mark set
 
-pub marked-set : (n : ℕ) (f g : ℕ → ℕ) (marks : List ℕ) (k x : ℕ) → k < n → Marked n f marks → x ≡ g k → ((j : ℕ) → j ≢ k → g j ≡ f j)
-    → Marked n g (set marks k x)
-marked-set n f g marks k x h w e o = record {
-  long = rw length-set w.long;
-  each = λ j l. by j l (eq-or-ne j k);
-}
-  where
-    by : (j : ℕ) → j < n → (j ≡ k) ⊎ (j ≢ k) → get_or (set marks k x) j 0 ≡ g j
-    by j l (inl q) = ap (λ i. get_or (set marks k x) i 0) q ∙ get_or-set_same marks k x 0 (omega (arith, w.long)) ∙ e ∙ ap g (sym q)
-    by j l (inr q) = get_or-set_other marks k j x 0 q ∙ w.each j l ∙ sym (o j q)
+module _ {A B : Type 0} (d : A) (read : A → B) where
+  pub marked-set : (n : ℕ) (f g : ℕ → B) (marks : List A) (k : ℕ) (x : A) → k < n → Marked d read n f marks → read x ≡ g k
+      → ((j : ℕ) → j ≢ k → g j ≡ f j) → Marked d read n g (set marks k x)
+  marked-set n f g marks k x h w e o = record {
+    long = rw length-set w.long;
+    each = λ j l. by j l (eq-or-ne j k);
+  }
+    where
+      by : (j : ℕ) → j < n → (j ≡ k) ⊎ (j ≢ k) → read (get_or (set marks k x) j d) ≡ g j
+      by j l (inl q) =
+          ap (λ i. read (get_or (set marks k x) i d)) q ∙ ap read (get_or-set_same marks k x d (omega (arith, w.long))) ∙ e ∙ ap g (sym q)
+      by j l (inr q) = ap read (get_or-set_other marks k j x d q) ∙ w.each j l ∙ sym (o j q)
 
--- at first no mark is set
-pub marked-none : (n : ℕ) → n ≤ max_qubits → Marked n (λ k. 0) (replicate max_qubits 0)
-marked-none n h = record {
-  long = rw (length-replicate {A = ℕ} max_qubits 0) h;
-  each = λ k g. get_or-replicate {A = ℕ} max_qubits k 0 0 (omega arith);
-}
+  -- at first no mark is set
+  pub marked-none : (n : ℕ) → n ≤ max_qubits → Marked d read n (λ k. read d) (replicate max_qubits d)
+  marked-none n h = record {
+    long = rw (length-replicate {A = A} max_qubits d) h;
+    each = λ k g. ap read (get_or-replicate {A = A} max_qubits k d d (omega arith));
+  }
+
+  -- the marks of the modes below n are those of a part of n places
+  pub marked-front : (n m : ℕ) (f : ℕ → B) (marks : List A) → m ≡ n → Marked d read n f marks → Marked d read n f (take m marks)
+  marked-front n m f marks e w = record {
+    long = rw (length-take-le m marks (omega (arith, w.long))) (omega arith);
+    each = λ k h. ap read (get_or-take m marks k d (omega arith)) ∙ w.each k h;
+  }
 
 -- ---- a product: the count of a mode turns odd or even
 
@@ -50,22 +58,33 @@ pub bit-small : (b : Bool) → bit b ≤ 1
 bit-small true = omega arith
 bit-small false = omega arith
 
-bit-turn : (b : Bool) → 1 - bit b ≡ bit (not b)
-bit-turn true = refl
-bit-turn false = refl
+pub odd-turn : (n : ℕ) (modes qs : List ℕ) (odd : List Bool) (i k : ℕ) (x : Bool) → k < n → k ≡ mode_listed modes qs i
+    → Odd n (odd_mode modes qs i) odd → x ≡ not (get_or odd k false) → Odd n (odd_mode modes qs (i + 1)) (set odd k x)
+odd-turn n modes qs odd i k x h e w ex =
+    marked-set false (λ b. b) n _ _ odd k x h w
+    (ex ∙ ap not (w.each k h) ∙ sym (odd-on (λ j. eqb (mode_listed modes qs j) k) i (eq-eqb (mode_listed modes qs i) k (sym e))))
+    (λ j ne. odd-off (λ i. eqb (mode_listed modes qs i) j) i (ne_eqb (mode_listed modes qs i) j (λ q. ne (sym q ∙ sym e))))
 
-pub odd-turn : (n : ℕ) (modes qs marks : List ℕ) (i k x : ℕ) → k < n → k ≡ mode_listed modes qs i → Marked n (λ k. bit (odd_mode modes qs i k)) marks
-    → x ≡ 1 - get_or marks k 0 → Marked n (λ k. bit (odd_mode modes qs (i + 1) k)) (set marks k x)
-odd-turn n modes qs marks i k x h e w ex =
-    marked-set n _ _ marks k x h w
-    (ex ∙ ap (λ y. 1 - y) (w.each k h) ∙ bit-turn (odd_mode modes qs i k)
-    ∙ ap bit (sym (odd-on (λ j. eqb (mode_listed modes qs j) k) i (eq-eqb (mode_listed modes qs i) k (sym e)))))
-    (λ j ne. ap bit (odd-off (λ i. eqb (mode_listed modes qs i) j) i (ne_eqb (mode_listed modes qs i) j (λ q. ne (sym q ∙ sym e)))))
+-- ---- the bits that modes are asked for
 
--- what the marks list are the modes of odd count
-pub bit-above : (b : Bool) → ltb 0 (bit b) ≡ b
-bit-above true = refl
-bit-above false = refl
+-- a bit that is 0 or 1, as it is read
+pub read_is : (x : ℕ) → x ≤ 1 → bit (eqb x 1) ≡ x
+read_is x h = by (eq-or-ne x 1)
+  where
+    by : (x ≡ 1) ⊎ (x ≢ 1) → bit (eqb x 1) ≡ x
+    by (inl e) = rw (eq-eqb x 1 e) (sym e)
+    by (inr ne) = rw (ne_eqb x 1 ne) (omega arith)
+
+-- a mode is asked for a bit, and for a one
+pub is_asked : (o : Option Bool) → is_some o ≡ ltb 0 (mark_of o)
+is_asked None = refl
+is_asked (Some true) = refl
+is_asked (Some false) = refl
+
+pub asked_one : (o : Option Bool) → unwrap_or o false ≡ is_one (mark_of o)
+asked_one None = refl
+asked_one (Some true) = refl
+asked_one (Some false) = refl
 
 -- ---- a marginal: what a place without contradiction notes
 
@@ -100,10 +119,10 @@ module _ (m b : ℕ → ℕ) where
   noted-there i k ne =
       noted_more i k ∙ rw (ne_eqb (m i) k (λ q. ne (sym q))) (not-here (suc (b i)) (noted m b i k) (eqb (noted m b i k) 0))
 
-  pub note-turn : (n : ℕ) (marks : List ℕ) (i k x : ℕ) → k < n → k ≡ m i → contradicts m b i ≡ false → x ≡ suc (b i) → Marked n (noted m b i) marks
-      → Marked n (noted m b (i + 1)) (set marks k x)
-  note-turn n marks i k x h e c ex w =
-      marked-set n _ _ marks k x h w (ex ∙ sym (noted_here i k e c)) (λ j ne. noted-there i j (λ q. ne (q ∙ sym e)))
+  pub note-turn : (n : ℕ) (asked : List (Option Bool)) (i k : ℕ) (x : Bool) → k < n → k ≡ m i → contradicts m b i ≡ false → bit x ≡ b i
+      → Asked n (noted m b i) asked → Asked n (noted m b (i + 1)) (set asked k (Some x))
+  note-turn n asked i k x h e c ex w =
+      marked-set None mark_of n _ _ asked k (Some x) h w (ap suc ex ∙ sym (noted_here i k e c)) (λ j ne. noted-there i j (λ q. ne (q ∙ sym e)))
 
   -- of a mode that no place has, nothing is noted
   pub noted-none : (i k : ℕ) → ((j : ℕ) → j < i → m j ≢ k) → noted m b i k ≡ 0
@@ -142,29 +161,11 @@ bits-asked qs bits e =
 
 -- ---- the modes left
 
-pub odd-left : (n : ℕ) (modes qs : List ℕ) (place : ℕ) (marks : List ℕ) → place ≡ length qs → Marked n (λ k. bit (odd_mode modes qs place k)) marks
-    → noted_modes n (λ k. get_or marks k 0) ≡ odd_modes n modes qs
+pub odd-left : (n : ℕ) (modes qs : List ℕ) (place : ℕ) (odd : List Bool) → place ≡ length qs → Odd n (odd_mode modes qs place) odd
+    → passing (λ k. get_or odd k false) n ≡ odd_modes n modes qs
 unfolding odd_modes
-odd-left n modes qs place marks e w =
-    passing-same _ _ n (λ k h. ap (ltb 0) (w.each k h) ∙ bit-above (odd_mode modes qs place k) ∙ ap (λ i. odd_mode modes qs i k) e)
+odd-left n modes qs place odd e w = passing-same _ _ n (λ k h. w.each k h ∙ ap (λ i. odd_mode modes qs i k) e)
 
--- in an array
-pub listed-modes : (n m : ℕ) (f : ℕ → ℕ) (count : ℕ) (array : List ℕ) → n ≤ m → Listed (noted_modes n f) count array → Modes m (2 * count) array
-listed-modes n m f count array more w = record {
-  fits = omega (arith, w.fits);
-  below = λ j h.
-      let c : j < count = omega arith in
-      let b : get_or (noted_modes n f) j 0 < n = (passing-ascends (λ k. ltb 0 (f k)) n).below j (omega (arith, w.size)) in
-      rw (w.each j c) (omega arith);
-}
-
-pub listed-few : (n : ℕ) (f : ℕ → ℕ) (count : ℕ) (array : List ℕ) → Listed (noted_modes n f) count array → count ≤ n
-listed-few n f count array w = omega (arith, w.size, (passing-ascends (λ k. ltb 0 (f k)) n).few)
-
-pub listed-square : (n : ℕ) (f : ℕ → ℕ) (count : ℕ) (array : List ℕ) → n ≤ max_qubits → Listed (noted_modes n f) count array
-    → 2 * count * (2 * count) ≤ dim_of max_qubits * dim_of max_qubits
-listed-square n f count array few w = square-few count (omega (arith, listed-few n f count array w))
-
--- the mode of a qubit, as it is read from the table
-pub mode-read : (n : ℕ) (l : List ℕ) (q k : ℕ) → is_permutation n l ≡ true → q < n → k ≡ mode_at l q → k < n
-mode-read n l q k p h e = omega (arith, e, mode-below n l p q h)
+-- as a list
+pub passing-below : (n m : ℕ) (p : ℕ → Bool) (list : List ℕ) → n ≤ m → list ≡ passing p n → Below m list
+passing-below n m p list more e = rw e (λ j h. omega (arith, (passing-ascends p n).below j h))

@@ -7,9 +7,12 @@ use Prim.Native.Nat.{ℕ, suc, ◌+◌, ◌*◌, ◌/◌, ◌%◌, ◌≤◌, �
 use native.Mathlib.Nat.{not-suc-le-zero, suc-mul, mul_comm, mul-le-mul_left, mul-le-mul_right, le_trans}
 use native.Mathlib.Numerals.{add-one}
 use native.Mathlib.Omega.{arith}
-use lib.ListN.{length, get_or, set, length-set}
+use Rattle.std.proofs.lemmas.List.{length-take-le, get_or-take}
+use Rattle.queries.proofs.Searches.{first-same}
+use mathlib.Core.Bool.{not}
+use lib.ListN.{length, take, get_or, set, length-set}
 use lib.Seq.{ext_get_or, get_or-set_same, get_or-set_other}
-use lib.Ieee.{Float}
+use lib.Ieee.{Float, nan}
 use borrow.Author.Tests.{eq-eqb, ne_eqb, lt-ltb, le-ltb}
 use Rattle.laws.specs.Matrix.{Mat, at, matrix}
 use Rattle.laws.specs.Tables.{mode_at}
@@ -20,7 +23,7 @@ use Rattle.laws.proofs.Matrix.{matrix-is}
 use Rattle.pfaffian.specs.Shot.{draw_from, shot_of}
 use Rattle.pfaffian.specs.declared.shots.Words.{Words}
 use Rattle.pfaffian.proofs.SameShots.{shot-same}
-use Rattle.queries.specs.Samples.{max_shots, shot_at, word_at, sampled}
+use Rattle.queries.specs.Samples.{max_shots, draw_ok_of, bad_draw_of, shot_at, word_at, sampled}
 
 -- ---- the draws
 
@@ -33,6 +36,13 @@ next-draws n i = rw (add-one i) (sym (suc-mul i n))
 
 pub used-few : (n shots : ℕ) → n ≤ max_qubits → shots ≤ max_shots → n * shots ≤ max_qubits * max_shots
 used-few n shots h g = le_trans (mul-le-mul_right {m = n} shots h) (mul-le-mul_left {m = shots} max_qubits g)
+
+-- the draws used, as a part of the slice
+pub used-draws : (used : ℕ) (draws : List Float) → used ≤ length draws → bad_draw_of (length (take used draws)) (take used draws) ≡ bad_draw_of used draws
+unfolding bad_draw_of
+used-draws used draws h =
+    rw (length-take-le used draws h)
+    (first-same _ _ used (λ k g. ap (λ x. not (draw_ok_of x)) (get_or-take used draws k nan g)))
 
 -- ---- a shot from the copy
 

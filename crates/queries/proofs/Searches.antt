@@ -7,12 +7,12 @@ use Prim.Native.Nat.{ℕ, zero, suc, ◌+◌, ◌-◌, ◌≤◌, ◌<◌}
 use native.Mathlib.Nat.{not-suc-le-zero, le_refl, add-zero, zero-add}
 use native.Mathlib.Numerals.{add-one}
 use native.Mathlib.Omega.{arith}
-use lib.ListN.{length, get_or, set, length-append, length-set, get_or-append}
-use lib.Seq.{get_or-append-add, get_or-set_same, get_or-set_other}
+use lib.ListN.{length, get_or, set, take, length-append, get_or-append}
+use Rattle.std.proofs.lemmas.List.{take-set, take_more_set}
+use lib.Seq.{get_or-append-add}
 use Rattle.laws.proofs.Cases.{lt-or-le, eq-or-ne}
 use Rattle.pfaffian.specs.Shot.{bit}
 use Rattle.queries.specs.Lists.{first_from, oddly, passing}
-use Rattle.queries.specs.Inner.{Listed}
 
 -- ---- the first, as a loop from k on meets it
 
@@ -51,6 +51,15 @@ module _ (p : ℕ → Bool) where
 
   pub first-all : (n : ℕ) → ((k : ℕ) → k < n → p k ≡ false) → first_from p 0 n ≡ n
   first-all n h = none_from n 0 (λ k a b. h k (omega arith)) ∙ zero-add n
+
+-- tests that agree have one first
+pub first-same : (p q : ℕ → Bool) (n : ℕ) → ((k : ℕ) → k < n → p k ≡ q k) → first_from p 0 n ≡ first_from q 0 n
+unfolding first_from
+first-same p q n h = by n 0 (λ i a b. h i (omega arith))
+  where
+    by : (n k : ℕ) → ((i : ℕ) → k ≤ i → i < k + n → p i ≡ q i) → first_from p k n ≡ first_from q k n
+    by zero k h = refl
+    by (suc n) k h = rw (h k (le_refl k) (omega arith), by n (suc k) (λ i a b. h i (omega arith) (omega arith)))
 
 -- ---- the parity
 
@@ -189,35 +198,12 @@ module _ (p : ℕ → Bool) where
           false-true z = let y : ◌≡◌ {A = ℕ} 0 1 = cc in omega arith
       by false f (inr q) r = r (omega arith) e
 
-  -- ---- the loop that lists them in an array
+  -- ---- the loop that lists them in the first places of an array
 
-  pub listed-none : (array : List ℕ) → Listed (passing p 0) 0 array
-  unfolding passing
-  listed-none array = record { size = refl; fits = omega arith; each = λ j h. absurd (not-suc-le-zero h) }
-
-  pub listed_more : (k count : ℕ) (array : List ℕ) (t : ℕ) → t ≡ bit (p k) → count < length array → Listed (passing p k) count array
-      → Listed (passing p (k + 1)) (count + t) (set array count k)
-  listed_more k count array t et h w = by (p k) refl et
+  pub listed_more : (k count t : ℕ) (array : List ℕ) → t ≡ bit (p k) → count < length array → take count array ≡ passing p k
+      → take (count + t) (set array count k) ≡ passing p (k + 1)
+  listed_more k count t array et h w = by (p k) refl et
     where
-      by : (b : Bool) → p k ≡ b → t ≡ bit b → Listed (passing p (k + 1)) (count + t) (set array count k)
-      by true e et =
-          rw (passing-on k e)
-          (record {
-            size = omega (arith, et, w.size, long-snoc (passing p k) k);
-            fits = rw length-set (omega (arith, et));
-            each = λ j g. at j (eq-or-ne j count) (omega (arith, et));
-          })
-        where
-          at : (j : ℕ) → (j ≡ count) ⊎ (j ≢ count) → j ≤ count → get_or (set array count k) j 0 ≡ get_or (passing p k ++ (k ∷ [])) j 0
-          at j (inl q) g =
-              ap (λ i. get_or (set array count k) i 0) q ∙ get_or-set_same array count k 0 h ∙ sym (last_snoc (passing p k) k j (q ∙ w.size))
-          at j (inr q) g =
-              let c : j < count = omega arith in
-              get_or-set_other array count j k 0 q ∙ w.each j c ∙ sym (early-snoc (passing p k) k j (omega (arith, w.size)))
-      by false e et =
-          rw (passing-off k e)
-          (record {
-            size = omega (arith, et, w.size);
-            fits = rw length-set (omega (arith, et));
-            each = λ j g. let c : j < count = omega (arith, et) in get_or-set_other array count j k 0 (λ q. omega arith) ∙ w.each j c;
-          })
+      by : (b : Bool) → p k ≡ b → t ≡ bit b → take (count + t) (set array count k) ≡ passing p (k + 1)
+      by true e et = rw (et, passing-on k e) (take_more_set array count k h ∙ ap (λ l. l ++ (k ∷ [])) w)
+      by false e et = rw (et, passing-off k e, add-zero) (take-set array count k ∙ w)

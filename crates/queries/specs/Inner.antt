@@ -1,39 +1,42 @@
--- What the inner functions ask and give: marks of modes, the modes listed in an array, a matrix in work. Definitions only.
--- Only inner functions rest on this.
-use Rattle.std.specs.Prelude.{◌≡◌, true, List, ℕ, ◌+◌, ◌*◌, ◌≤◌, ◌<◌, get_or, length, set, Float}
+-- What the inner functions ask and give: marks of modes, a list of modes, a matrix in work. Definitions only. Only inner functions rest on this.
+use Rattle.std.specs.Prelude.{◌≡◌, Bool, true, false, Option, Some, None, List, suc, ℕ, ◌+◌, ◌*◌, ◌≤◌, ◌<◌, get_or, length, set, Float}
 use Rattle.std.specs.Float.{binary64}
 use Rattle.std.specs.Float.Ieee.{add, sub}
 use Rattle.laws.specs.Matrix.{Mat, at, matrix}
 use Rattle.laws.specs.Steps.{Mask, masked, in_row}
-use Rattle.laws.specs.Bounds.{max_qubits}
-use Rattle.local.specs.Bounds.{state_places}
-use Rattle.state.specs.Bounds.{dim_of}
+use Rattle.pfaffian.specs.Shot.{bit}
 use Rattle.queries.specs.Marginals.{half_spin_of, shifted}
+use Rattle.queries.specs.declared.lists.Noted.{Noted}
+use Rattle.queries.specs.declared.lists.Noted.TheVariants.{Agreeing, Contradictory}
 
--- the marks of the modes below n are those of f
-pub record Marked (n : ℕ) (f : ℕ → ℕ) (marks : List ℕ) : Type 0 where
+-- what is noted of the modes below n, as `read` says it, is f; d is noted past the end
+pub record Marked {A B : Type 0} (d : A) (read : A → B) (n : ℕ) (f : ℕ → B) (marks : List A) : Type 0 where
   pub long : n ≤ length marks
-  pub each : (k : ℕ) → k < n → get_or marks k 0 ≡ f k
+  pub each : (k : ℕ) → k < n → read (get_or marks k d) ≡ f k
 
--- the mark of mode k
-abbrev pub mark_at : List ℕ → ℕ → ℕ
-mark_at marks k = get_or marks k 0
+-- of a product: whether its list has a mode an odd number of times
+abbrev pub Odd : ℕ → (ℕ → Bool) → List Bool → Type 0
+Odd n f odd = Marked false (λ b. b) n f odd
 
--- the first `count` places of the array are the list l
-pub record Listed (l : List ℕ) (count : ℕ) (array : List ℕ) : Type 0 where
-  pub size : count ≡ length l
-  pub fits : count ≤ length array
-  pub each : (j : ℕ) → j < count → get_or array j 0 ≡ get_or l j 0
+-- of a marginal: the bit that a mode is asked for; as its mark 0 if there is none, else one more than the bit
+abbrev pub mark_of : Option Bool → ℕ
+mark_of None = 0
+mark_of (Some b) = suc (bit b)
 
--- the array has a mode below n for each of `dim` rows
-pub record Modes (n dim : ℕ) (array : List ℕ) : Type 0 where
-  pub fits : dim ≤ 2 * length array
-  pub below : (j : ℕ) → 2 * j < dim → get_or array j 0 < n
+abbrev pub mark_at : List (Option Bool) → ℕ → ℕ
+mark_at asked k = mark_of (get_or asked k None)
 
--- the slice holds a state of n qubits
-pub record Ready (n : ℕ) (s : List Float) : Type 0 where
-  pub few : n ≤ max_qubits
-  pub room : state_places (dim_of n) ≤ length s
+abbrev pub Asked : ℕ → (ℕ → ℕ) → List (Option Bool) → Type 0
+Asked n f asked = Marked None mark_of n f asked
+
+-- what a list says as a whole, by the place where it stops
+abbrev pub Says : ℕ → List ℕ → ℕ → Noted → Type 0
+Says n qs place Agreeing = place ≡ length qs
+Says n qs place Contradictory = (place < length qs) × (get_or qs place 0 < n)
+
+-- the modes of the list are below n
+abbrev pub Below : ℕ → List ℕ → Type 0
+Below n list = (j : ℕ) → j < length list → get_or list j 0 < n
 
 -- every entry
 abbrev pub everywhere : Mask
@@ -51,5 +54,5 @@ pair_shifted dim a s w =
     set (set w (a * dim + (a + 1)) (add binary64 (at dim w a (a + 1)) s)) ((a + 1) * dim + a) (sub binary64 (at dim w (a + 1) a) s)
 
 -- every pair is, by the mark of its mode
-abbrev pub pairs_shifted : ℕ → List ℕ → List ℕ → List Float → List Float
-pairs_shifted dim marks list w = matrix dim (shifted (λ j. half_spin_of (mark_at marks (get_or list j 0))) (at dim w)) w
+abbrev pub pairs_shifted : ℕ → List (Option Bool) → List ℕ → List Float → List Float
+pairs_shifted dim asked list w = matrix dim (shifted (λ j. half_spin_of (mark_at asked (get_or list j 0))) (at dim w)) w

@@ -1,110 +1,110 @@
-// The list of a query. Its places are read once, in their order, and what they say is kept as a mark for each mode.
+// The list of a query. Its places are read once, in their order, and what they say is kept for each mode.
 
-ghost use Rattle.std.specs.Prelude.{◌≡◌, true, ◌≤◌, ◌<◌, ltb, length};
+ghost use Rattle.std.specs.Prelude.{◌≡◌, Bool, true, false, ℕ, suc, ◌<◌, ◌≤◌, length, get_or, take, MatchResult};
 ghost use Rattle.pfaffian.specs.Shot.{bit};
-ghost use Rattle.state.specs.Modes.{is_permutation};
-ghost use Rattle.queries.specs.Lists.{bad_place, odd_mode, conflicts_of, bits_ok, bit_listed, mode_listed, stop_place, noted, noted_modes};
-ghost use Rattle.queries.specs.Inner.{Marked, mark_at, Listed};
+ghost use Rattle.queries.specs.Lists.{bad_place, odd_mode, bits_ok, bit_listed, mode_listed, stop_place, conflicts_of, noted, passing};
+ghost use Rattle.queries.specs.Inner.{Odd, Asked, Says, mark_of};
 
-use state::mode_at;
+use state::{Checked, Refusal};
 
-// The modes of odd count are marked 1. The answer is the place of the first qubit that is not below n, or the list's length; the marks
-// are those of the places before it.
-pub fn mark_odd(n: usize, modes: &[u16], qubits: &[usize], marks: &mut [u8]) -> usize
-    requires modes_value { is_permutation n modes.now ≡ true }
-    requires marked { Marked n (λ k. 0) marks.old }
-    ensures place { result ≡ bad_place n qubits.now }
-    ensures marks { Marked n (λ k. bit (odd_mode modes.now qubits.now result k)) marks.new }
-{
-    let mut i = 0;
-    while i < qubits.len() {
-        let q = qubits[i];
-        if q >= n {
-            return i;
-        }
-        let k = mode_at(modes, q);
-        marks[k] = 1 - marks[k];
-        i += 1;
-    }
-    i
+// What a list of qubits with their bits says as a whole.
+#[derive(Clone, Copy, Debug, PartialEq, Eq)]
+pub enum Noted {
+    Agreeing, // no mode is asked for two bits
+    Contradictory,
 }
 
-// As many bits as qubits, each 0 or 1.
-pub fn bits_ok(qubits: &[usize], bits: &[u8]) -> bool
-    ensures { result ≡ bits_ok qubits.now bits.now }
+// The modes of odd count are marked, and a qubit that is not below n is refused (question 19): then the marks are those of the places
+// before it.
+pub fn mark_odd(checked: Checked, qubits: &[usize], odd: &mut [bool]) -> Result<(), Refusal>
+    requires { Odd checked.n (λ k. false) odd.old }
+    ensures answer { let place = bad_place checked.entry.n qubits.now in
+        MatchResult result (λ _. place ≡ length qubits.now)
+        (λ why. (place < length qubits.now) × (why ≡ Refusal.BadQubit place)) }
+    ensures marks { let place = bad_place checked.entry.n qubits.now in
+        Odd checked.entry.n (odd_mode checked.entry.modes.now qubits.now place) odd.new }
+{
+    for (i, q) in qubits.iter().enumerate() {
+        if *q >= checked.n {
+            return Err(Refusal::BadQubit(i));
+        }
+        let k = checked.mode_of(*q);
+        odd[k] = !odd[k];
+    }
+    Ok(())
+}
+
+// As many bits as qubits, each 0 or 1: question 18.
+pub fn check_bits(qubits: &[usize], bits: &[u8]) -> Result<(), Refusal>
+    ensures { MatchResult result (λ _. bits_ok qubits.now bits.now ≡ true)
+        (λ why. (why ≡ Refusal.BadBits) × (bits_ok qubits.now bits.now ≡ false)) }
 {
     if qubits.len() != bits.len() {
-        return false;
+        return Err(Refusal::BadBits);
     }
-    let mut i = 0;
-    while i < bits.len() {
-        if bits[i] > 1 {
-            return false;
+    for bit in bits {
+        if *bit > 1 {
+            return Err(Refusal::BadBits);
         }
-        i += 1;
     }
-    true
+    Ok(())
 }
 
-// Something is noted, and it is not x.
-fn conflicts(noted: u8, x: u8) -> bool
-    ensures { result ≡ conflicts_of noted x }
+// A bit is asked for, and it is another.
+fn conflicts(asked: Option<bool>, read: bool) -> bool
+    ensures { result ≡ conflicts_of (mark_of asked) (suc (bit read)) }
 {
-    if noted > 0 {
-        if noted == x {
-            return false;
-        }
-        return true;
+    match asked {
+        Some(first) => first != read,
+        None => false,
     }
-    false
 }
 
-// One more than the first bit listed is noted of each mode. The answer is the place of the first qubit that is not below n or contradicts
-// an earlier place, or the list's length; the marks are those of the places before it.
-pub fn note_bits(n: usize, modes: &[u16], qubits: &[usize], bits: &[u8], marks: &mut [u8]) -> usize
-    requires modes_value { is_permutation n modes.now ≡ true }
+// The first bit listed is noted of each mode, up to the first qubit that is not below n (question 19) or contradicts an earlier place: then
+// what is noted is what the places before it say.
+pub fn note_bits(
+    checked: Checked,
+    qubits: &[usize],
+    bits: &[u8],
+    asked: &mut [Option<bool>],
+) -> Result<Noted, Refusal>
     requires bits_value { bits_ok qubits.now bits.now ≡ true }
-    requires marked { Marked n (λ k. 0) marks.old }
-    ensures place { result ≡ stop_place n modes.now qubits.now bits.now }
-    ensures marks { Marked n (noted (mode_listed modes.now qubits.now) (bit_listed bits.now) result)
-        marks.new }
+    requires none { Asked checked.n (λ k. 0) asked.old }
+    ensures answer { let place = stop_place checked.entry.n checked.entry.modes.now qubits.now bits.now in
+        MatchResult result (Says checked.entry.n qubits.now place)
+        (λ why. (place < length qubits.now) × (checked.entry.n ≤ get_or qubits.now place 0)
+        × (why ≡ Refusal.BadQubit place)) }
+    ensures asked { let place = stop_place checked.entry.n checked.entry.modes.now qubits.now bits.now in
+        Asked checked.entry.n
+        (noted (mode_listed checked.entry.modes.now qubits.now) (bit_listed bits.now) place)
+        asked.new }
 {
-    let mut i = 0;
-    while i < qubits.len() {
-        let q = qubits[i];
-        if q >= n {
-            return i;
+    for (i, q) in qubits.iter().enumerate() {
+        if *q >= checked.n {
+            return Err(Refusal::BadQubit(i));
         }
-        let k = mode_at(modes, q);
-        let x = 1 + bits[i];
-        if conflicts(marks[k], x) {
-            return i;
+        let k = checked.mode_of(*q);
+        let bit = bits[i] == 1;
+        if conflicts(asked[k], bit) {
+            return Ok(Noted::Contradictory);
         }
-        marks[k] = x;
-        i += 1;
+        asked[k] = Some(bit);
     }
-    i
+    Ok(Noted::Agreeing)
 }
 
-// 1 for a mark that notes something.
-fn step(mark: u8) -> usize
-    ensures { result ≡ bit (ltb 0 mark) }
-{
-    if mark > 0 { 1 } else { 0 }
-}
-
-// The modes below n that something is noted of, ascending, and their number.
-pub fn list_modes(marks: &[u8], n: usize, list: &mut [usize]) -> usize
-    requires marks_room { n ≤ length marks.now }
-    requires list_room { n ≤ length list.old }
-    ensures { Listed (noted_modes n (mark_at marks.now)) result list.new }
+// The modes below n that pass a test, ascending, in the first places of the list; their number.
+pub fn list_modes<F: Fn(usize) -> bool>(n: usize, left: F, list: &mut [usize]) -> usize
+    requires room { n ≤ length list.old }
+    requires callable { (k : ℕ) → k < n → F.pre left k }
+    ensures fits { result ≤ n }
+    ensures modes { (p : ℕ → Bool) → ((k : ℕ) (b : Bool) → k < n → F.post left k b → b ≡ p k)
+        → take result list.new ≡ passing p n }
 {
     let mut count = 0;
-    let mut k = 0;
-    while k < n {
+    for k in 0..n {
         list[count] = k;
-        count += step(marks[k]);
-        k += 1;
+        count += usize::from(left(k));
     }
     count
 }

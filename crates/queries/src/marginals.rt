@@ -1,83 +1,66 @@
 // The probability that some qubits read their bits.
 
-ghost use Rattle.std.specs.Prelude.{◌≡◌, cond, not, ◌≤◌, ◌<◌, length};
+ghost use Rattle.std.specs.Prelude.{◌≡◌, length};
 ghost use Rattle.state.specs.Answers.{told};
 ghost use Rattle.queries.specs.Lists.{oddly};
 ghost use Rattle.queries.specs.Marginals.{is_one, sign_of, at_least_zero_of};
-ghost use Rattle.queries.specs.Calls.{covariance_of, stopped_of, marked_answer, marked_work, marginal_probability_of, marginal_probability_work};
-ghost use Rattle.queries.specs.Inner.{mark_at, Ready};
+ghost use Rattle.queries.specs.Calls.{covariance_of, marked_answer, marked_work, marginal_probability_of, marginal_probability_work};
+ghost use Rattle.queries.specs.Inner.{mark_at};
 
-use super::lists::{bits_ok, list_modes, note_bits};
+use super::lists::{Noted, check_bits, list_modes, note_bits};
 use super::matrices::{ask, pfaffian_cleared};
 use laws::MAX_QUBITS;
-use state::{Answer, Refusal, state_ok};
-
-// A mode that is asked for a one turns the parity.
-fn turned(odd: bool, mark: u8) -> bool
-    ensures { result ≡ cond (is_one mark) (not odd) odd }
-{
-    if mark == 2 { !odd } else { odd }
-}
+use state::{Checked, Refusal};
 
 // The modes asked for a one are odd in number.
-fn odd_ones(marks: &[u8], n: usize) -> bool
-    requires { n ≤ length marks.now }
-    ensures { result ≡ oddly (λ k. is_one (mark_at marks.now k)) n }
+fn odd_ones(asked: &[Option<bool>]) -> bool
+    ensures { result ≡ oddly (λ k. is_one (mark_at asked.now k)) (length asked.now) }
 {
     let mut odd = false;
-    let mut k = 0;
-    while k < n {
-        odd = turned(odd, marks[k]);
-        k += 1;
+    for bit in asked {
+        odd ^= bit.unwrap_or(false);
     }
     odd
 }
 
 // -1.0 for an odd number of ones, else 1.0.
-fn sign(marks: &[u8], n: usize) -> f64
-    requires { n ≤ length marks.now }
-    ensures { result ≡ sign_of n (mark_at marks.now) }
+fn sign(asked: &[Option<bool>]) -> f64
+    ensures { result ≡ sign_of (length asked.now) (mark_at asked.now) }
 {
-    if odd_ones(marks, n) { -1.0 } else { 1.0 }
+    if odd_ones(asked) { -1.0 } else { 1.0 }
 }
 
-// Rust's `max(0.0)`, with 0.0 for either zero.
+// Rust's `max(0.0)`, with 0.0 for either zero: which of them std's gives is left open.
 fn at_least_zero(x: f64) -> f64
     ensures { result ≡ at_least_zero_of x }
 {
     if x > 0.0 { x } else { 0.0 }
 }
 
-// The probability of what the marks ask: question 20.
-pub fn marked_probability(n: usize, state: &[f64], marks: &[u8], work: &mut [f64]) -> Answer
-    requires ready { Ready n state.now }
-    requires n_in_bounds { n ≤ length marks.now }
-    ensures answer { told result ≡ marked_answer (covariance_of n state.now) n (mark_at marks.now) work.old }
-    ensures work { work.new ≡ marked_work n (mark_at marks.now) work.old }
+// The probability that the modes read the bits that they are asked for: question 20.
+pub fn marked_probability(
+    checked: Checked,
+    asked: &[Option<bool>],
+    work: &mut [f64],
+) -> Result<f64, Refusal>
+    requires { length asked.now ≡ checked.n }
+    ensures answer { told result ≡ marked_answer (covariance_of checked.entry.n checked.entry.state.now)
+        checked.entry.n (mark_at asked.now) work.old }
+    ensures work { work.new ≡ marked_work checked.entry.n (mark_at asked.now) work.old }
 {
     let mut list = [0; MAX_QUBITS];
-    let count = list_modes(marks, n, &mut list);
+    let count = list_modes(checked.n, |k| asked[k].is_some(), &mut list);
     let dim = 2 * count;
     if work.len() < dim * dim {
-        return Answer::Refused(Refusal::SmallWork);
+        return Err(Refusal::SmallWork);
     }
-    ask(state, n, &list, count, marks, work);
+    ask(checked, &list[..count], asked, work);
     let x = pfaffian_cleared(work, dim);
-    Answer::Value(at_least_zero(sign(marks, n) * x))
+    Ok(at_least_zero(sign(asked) * x))
 }
 
-// A list that stops: at a qubit that is not below n, else at a contradiction.
-fn stopped(n: usize, qubits: &[usize], place: usize) -> Answer
-    requires { place < length qubits.now }
-    ensures { told result ≡ stopped_of n qubits.now place }
-{
-    if qubits[place] >= n {
-        return Answer::Refused(Refusal::BadQubit(place));
-    }
-    Answer::Value(0.0)
-}
-
-// The probability that the listed qubits read their bits: questions 16, 18, 19 and 20.
+// The probability that the listed qubits read their bits: questions 16, 18, 19 and 20. A list that contradicts itself has the probability
+// 0.0, whatever follows and however small work is.
 pub fn marginal_probability(
     n: usize,
     state: &[f64],
@@ -85,22 +68,17 @@ pub fn marginal_probability(
     qubits: &[usize],
     bits: &[u8],
     work: &mut [f64],
-) -> Answer
+) -> Result<f64, Refusal>
     ensures answer { told result ≡ marginal_probability_of n state.now modes.now qubits.now
         bits.now work.old }
     ensures work { work.new ≡ marginal_probability_work n state.now modes.now qubits.now
         bits.now work.old }
 {
-    if state_ok(n, state, modes) {
-        if bits_ok(qubits, bits) {
-            let mut marks = [0u8; MAX_QUBITS];
-            let place = note_bits(n, modes, qubits, bits, &mut marks);
-            if place < qubits.len() {
-                return stopped(n, qubits, place);
-            }
-            return marked_probability(n, state, &marks, work);
-        }
-        return Answer::Refused(Refusal::BadBits);
+    let checked = Checked::new(n, state, modes)?;
+    check_bits(qubits, bits)?;
+    let mut asked = [None; MAX_QUBITS];
+    match note_bits(checked, qubits, bits, &mut asked)? {
+        Noted::Agreeing => marked_probability(checked, &asked[..n], work),
+        Noted::Contradictory => Ok(0.0),
     }
-    Answer::Refused(Refusal::BadState)
 }

@@ -9,3 +9,4 @@ mod Marks
 pub mod Questions
 pub mod Pairs
 mod Examples
+pub mod Fills

@@ -1,11 +1,12 @@
 -- Laws of the mode table: a turn of the loop that marks the modes it has met; and of a permutation: every mode below n is the mode of exactly one
 -- qubit below n. Assumes nothing.
-use Rattle.std.proofs.Common.{◌≡◌, ℕ, zero, suc, ◌+◌, ◌<◌, ◌≤◌, Bool, true, false, not, ◌&&◌, eqb, ltb, leb, ◌≢◌, ◌⊎◌, List, [], ◌∷◌, length, get_or, set, sym, refl, ap, ◌∙◌, inl, inr, le_antisymm, add-one, arith, length-set, get_or-set_other, get_or-set_same, ltb-true, lt-ltb, eq-eqb, ne_eqb, eqb-true, leb-true}
+use Rattle.std.proofs.Common.{◌≡◌, ℕ, zero, suc, ◌+◌, ◌<◌, ◌≤◌, Bool, true, false, not, ◌&&◌, eqb, ltb, leb, ◌≢◌, ◌⊎◌, List, [], ◌∷◌, length, get_or, set, take, sym, refl, ap, ◌∙◌, inl, inr, le_antisymm, add-one, arith, length-set, get_or-set_other, get_or-set_same, ltb-true, lt-ltb, eq-eqb, ne_eqb, eqb-true, leb-true}
 use mathlib.Core.Bool.{false≢true}
 use Rattle.laws.specs.Tests.{all_below}
 use Rattle.laws.specs.Tables.{mode_at}
 use Rattle.laws.proofs.Cases.{lt-or-le, eq-or-ne}
-use Rattle.laws.proofs.Tests.{and_left, and_right, all-each, all_of}
+use Rattle.laws.proofs.Tests.{and_left, and_right, all-each, all_of, all_same}
+use Rattle.std.proofs.lemmas.List.{get_or-take}
 use Rattle.state.specs.Modes.{unused, mode_ok, is_permutation}
 use Rattle.state.specs.Parts.{Marked}
 
@@ -66,6 +67,17 @@ identity-ok n l e = all_of (mode_ok n l) n one
         rw (lt-ltb (mode_at l q) n b)
         (all_of (λ p. not (eqb (mode_at l p) (mode_at l q))) q
         (λ p g. ap not (ne_eqb (mode_at l p) (mode_at l q) (λ y. omega (arith, own q h, own p (omega arith), y)))))
+
+-- the first n entries say it as the whole table does
+pub mode-front : (n : ℕ) (l : List ℕ) → all_below (mode_ok n (take n l)) n ≡ all_below (mode_ok n l) n
+mode-front n l = all_same _ _ n one
+  where
+    one : (q : ℕ) → q < n → mode_ok n (take n l) q ≡ mode_ok n l q
+    one q h =
+        let e : mode_at (take n l) q ≡ mode_at l q = get_or-take n l q 0 h in
+        (λ t. ltb (e t) n && unused (take n l) q (e t))
+        ∙ ap (λ b. ltb (mode_at l q) n && b)
+        (all_same _ _ q (λ p g. ap (λ x. not (eqb x (mode_at l q))) (get_or-take n l p 0 (omega arith))))
 
 not_eqb : (a b : ℕ) → not (eqb a b) ≡ true → a ≢ b
 not_eqb a b e q = absurd (false≢true (ap not (sym (eq-eqb a b q)) ∙ e))

@@ -1,5 +1,5 @@
 -- A whole number that an f64 holds, and an f64 equal to it: read as a mode, that one is the number. Assumes nothing.
-use Rattle.std.proofs.Common.{◌≡◌, ℕ, zero, suc, ◌+◌, ◌-◌, ◌*◌, ◌/◌, ◌^◌, ◌<◌, ◌≤◌, min, Bool, true, false, ◌&&◌, ◌||◌, T, eqb, ◌⊎◌, ℤ, pos, sym, refl, ap, ◌∙◌, subst, inl, inr, ⊎_elim, lt_irrefl, zero-lt-suc, mul-lt-mul_of_pos_right, mul-pos, zero-mul, mul-one, mul_right_comm, mul-div_cancel, arith, eqb→eq, lt-ltb, eq-eqb}
+use Rattle.std.proofs.Common.{◌≡◌, ℕ, zero, suc, ◌+◌, ◌-◌, ◌*◌, ◌/◌, ◌^◌, ◌<◌, ◌≤◌, min, Bool, true, false, ◌&&◌, ◌||◌, T, eqb, Some, ◌⊎◌, ℤ, pos, sym, refl, ap, ◌∙◌, subst, inl, inr, ⊎_elim, lt_irrefl, zero-lt-suc, mul-lt-mul_of_pos_right, mul-pos, zero-mul, mul-one, mul_right_comm, mul-div_cancel, arith, eqb→eq, lt-ltb, eq-eqb}
 use mathlib.Core.Bool.{beq, false≢true}
 use native.Mathlib.Nat.{eq_of_mul-eq-mul_right, min-eq_left}
 use lib.Ieee.{Float, nan, inf, fin, binary64, up, down, of_bits, of_int, to_unsigned, neg, lt, eq, round}
@@ -9,7 +9,6 @@ use lib.Ieee.Fits.{down_pos}
 use lib.Ieee.Scale.{finite}
 use Rattle.laws.specs.Bounds.{max_qubits}
 use Rattle.state.specs.Operation.{is_whole, mode_of}
-use Rattle.state.specs.declared.operation.Mode.TheVariants.{At}
 
 -- ±m * 2 ^ e is i
 record Is (i : ℕ) (s : Bool) (m : ℕ) (e : ℤ) : Type 0 where
@@ -88,11 +87,11 @@ number (fin s n d) nan i v h = absurd (false≢true h)
 number (fin s n d) (inf t) i v h = absurd (false≢true h)
 number (fin s n d) (fin t m e) i v h = tt
 
-pub mode-is : (x : Float) (i n : ℕ) → i ≤ 2 ^ 53 → i < n → eq (of_int binary64 (pos i)) x ≡ true → mode_of x n ≡ At i
+pub mode-is : (x : Float) (i n : ℕ) → i ≤ 2 ^ 53 → i < n → eq (of_int binary64 (pos i)) x ≡ true → mode_of x n ≡ Some i
 unfolding mode_of is_whole of_int
 mode-is x i n b l h = by x h (number (round binary64 false i 1) x i (round_whole binary64 false i b) h)
   where
-    by : (x : Float) → eq (of_int binary64 (pos i)) x ≡ true → T (finite x) → mode_of x n ≡ At i
+    by : (x : Float) → eq (of_int binary64 (pos i)) x ≡ true → T (finite x) → mode_of x n ≡ Some i
     by nan h f = elim f [ ]
     by (inf _) h f = elim f [ ]
     by (fin s m e) h f =
@@ -108,7 +107,7 @@ same (inf _) k v = elim v [ ]
 same (fin true n d) k v = absurd (false≢true (sym v.0))
 same (fin false n d) k v = rw (eq-eqb (n * up d * down d) (n * up d * down d) refl)
 
-pub mode-back : (k n : ℕ) → k < n → n ≤ max_qubits → mode_of (of_int binary64 (pos k)) n ≡ At k
+pub mode-back : (k n : ℕ) → k < n → n ≤ max_qubits → mode_of (of_int binary64 (pos k)) n ≡ Some k
 unfolding of_int
 mode-back k n h m =
     let small : k ≤ 2 ^ 53 = omega (arith, h, m) in

@@ -1,13 +1,9 @@
 -- The answers of the state calls: for every case of the code's enums the scope's number, its place, and the value. "A refusal's numbers are zero."
 -- Definitions only. A public promise rests on this.
-use Rattle.std.specs.Prelude.{ℕ, Float}
+use Rattle.std.specs.Prelude.{ℕ, ⊤, Result, Ok, Err, Float}
 use Rattle.laws.specs.Zeros.{+0}
 use Rattle.state.specs.declared.answer.Refusal.{Refusal}
 use Rattle.state.specs.declared.answer.Refusal.TheVariants.{BadState, BadOperation, BadBits, BadQubit, SmallWork, BadShots, BadDraw}
-use Rattle.state.specs.declared.answer.Applied.{Applied}
-use Rattle.state.specs.declared.answer.Applied.TheVariants as applied
-use Rattle.state.specs.declared.answer.Answer.{Answer}
-use Rattle.state.specs.declared.answer.Answer.TheVariants as answer
 use Rattle.state.specs.declared.told.Told as struct
 
 -- the question whose answer is no, 0 if there is none; the place; the number asked for: the code's own struct
@@ -31,11 +27,11 @@ refusal BadShots = refused 21 0
 refusal (BadDraw place) = refused 22 place
 
 -- of a call that gives no number
-unfoldable pub done : Applied → Told
-done applied.Done = accepted +0
-done (applied.Refused why) = refusal why
+unfoldable pub done : Result ⊤ Refusal → Told
+done (Ok _) = accepted +0
+done (Err why) = refusal why
 
 -- of a query
-unfoldable pub told : Answer → Told
-told (answer.Value x) = accepted x
-told (answer.Refused why) = refusal why
+unfoldable pub told : Result Float Refusal → Told
+told (Ok x) = accepted x
+told (Err why) = refusal why

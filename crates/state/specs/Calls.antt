@@ -1,6 +1,6 @@
 -- What the public calls answer, by their questions in order, and what they leave in the state slice. Every query is a function of the matrix `get`.
 -- Definitions only. A public promise rests on this.
-use Rattle.std.specs.Prelude.{ℕ, ◌+◌, ◌*◌, cond, List, nat_lt, Float}
+use Rattle.std.specs.Prelude.{ℕ, ◌+◌, ◌*◌, cond, List, Option, Some, None, nat_lt, Float}
 use Rattle.laws.specs.Zeros.{+0}
 use Rattle.laws.specs.Matrix.{Mat}
 use Rattle.laws.specs.Tables.{mode_at}
@@ -9,19 +9,18 @@ use Rattle.state.specs.Bounds.{dim_of}
 use Rattle.state.specs.Operation.{decode_of, applied}
 use Rattle.state.specs.Questions.{state_ok}
 use Rattle.state.specs.Answers.{Told, accepted, refused}
-use Rattle.state.specs.declared.operation.Decoded.{Decoded}
-use Rattle.state.specs.declared.operation.Decoded.TheVariants.{Good, Bad}
+use Rattle.state.specs.declared.operation.Operation.{Operation}
 
 -- ---- apply: questions 16 and 17
 
-unfoldable pub decoded_answer : Decoded → Told
-decoded_answer (Good o) = accepted +0
-decoded_answer Bad = refused 17 0
+unfoldable pub decoded_answer : Option Operation → Told
+decoded_answer (Some o) = accepted +0
+decoded_answer None = refused 17 0
 
 -- a refusal changes nothing
-unfoldable pub decoded_state : ℕ → List Float → Decoded → List Float
-decoded_state n s (Good o) = applied n o s
-decoded_state n s Bad = s
+unfoldable pub decoded_state : ℕ → List Float → Option Operation → List Float
+decoded_state n s (Some o) = applied n o s
+decoded_state n s None = s
 
 unfoldable pub apply_answer : ℕ → List Float → List ℕ → List Float → Told
 apply_answer n s modes op = cond (state_ok n s modes) (decoded_answer (decode_of n op)) (refused 16 0)

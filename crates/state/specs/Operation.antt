@@ -1,6 +1,6 @@
 -- Operations: what the 18 places of one hold, "kind, mode, 16 numbers" (questions 10 and 17), and what it does to the state. Definitions only.
 -- A public promise rests on this.
-use Rattle.std.specs.Prelude.{ℕ, ◌+◌, ◌-◌, ◌*◌, ◌<◌, Bool, cond, ◌&&◌, List, length, pos, ◌==◌, from_bits, nat_lt, slice_index_or, Float}
+use Rattle.std.specs.Prelude.{ℕ, ◌+◌, ◌-◌, ◌*◌, ◌<◌, Bool, cond, ◌&&◌, List, length, Option, Some, None, pos, ◌==◌, from_bits, nat_lt, slice_index_or, Float}
 use Rattle.std.specs.Float.{nan, binary64}
 use Rattle.std.specs.Float.Ieee.{of_int, to_unsigned, neg, lt, eq}
 use Rattle.laws.specs.Bounds.{op_places}
@@ -15,10 +15,6 @@ use Rattle.local.specs.Apply.{step}
 use Rattle.state.specs.Bounds.{dim_of}
 use Rattle.state.specs.declared.operation.Operation.{Operation}
 use Rattle.state.specs.declared.operation.Operation.TheVariants.{One, Two, Interaction}
-use Rattle.state.specs.declared.operation.Mode.{Mode}
-use Rattle.state.specs.declared.operation.Mode.TheVariants.{At, Nowhere}
-use Rattle.state.specs.declared.operation.Decoded.{Decoded}
-use Rattle.state.specs.declared.operation.Decoded.TheVariants.{Good, Bad}
 
 -- ---- "the mode a whole number from 0 and below n"
 
@@ -28,8 +24,9 @@ is_whole x =
     lt (neg (from_bits binary64 0x3ff0_0000_0000_0000)) x && (lt x (from_bits binary64 0x43f0_0000_0000_0000)
     && eq (of_int binary64 (pos (to_unsigned 64 x))) x)
 
-unfoldable pub mode_of : Float → ℕ → Mode
-mode_of x n = cond (is_whole x) (cond (nat_lt (to_unsigned 64 x) n) (At (to_unsigned 64 x)) Nowhere) Nowhere
+-- that mode, if x is one
+unfoldable pub mode_of : Float → ℕ → Option ℕ
+mode_of x n = cond (is_whole x) (cond (nat_lt (to_unsigned 64 x) n) (Some (to_unsigned 64 x)) None) None
 
 -- ---- the places
 
@@ -59,21 +56,21 @@ interaction_at s = Interaction (place_of s 1) (place_of s 2) (place_of s 3) (rec
 abbrev pub kind_is : List Float → ℕ → Bool
 kind_is s bits = eq (place_of s 0) (from_bits binary64 bits)
 
-unfoldable pub one_of : List Float → Mode → Decoded
-one_of s (At mode) = Good (One mode (map2_of s))
-one_of s Nowhere = Bad
+unfoldable pub one_of : List Float → Option ℕ → Option Operation
+one_of s (Some mode) = Some (One mode (map2_of s))
+one_of s None = None
 
-unfoldable pub two_of : List Float → Mode → Decoded
-two_of s (At mode) = Good (Two mode (map4_of s))
-two_of s Nowhere = Bad
+unfoldable pub two_of : List Float → Option ℕ → Option Operation
+two_of s (Some mode) = Some (Two mode (map4_of s))
+two_of s None = None
 
 -- "has the operation 18 places, is the kind 1, 2 or 3, and for 1 and 2 the mode a whole number from 0 and below n, for 2 its successor too?"
-unfoldable pub decode_of : ℕ → List Float → Decoded
+unfoldable pub decode_of : ℕ → List Float → Option Operation
 decode_of n s =
-    cond (nat_lt (length s) op_places) Bad
+    cond (nat_lt (length s) op_places) None
     (cond (kind_is s 0x3ff0_0000_0000_0000) (one_of s (mode_of (place_of s 1) n))
-    (cond (kind_is s 0x4000_0000_0000_0000) (cond (n == 0) Bad (two_of s (mode_of (place_of s 1) (n - 1))))
-    (cond (kind_is s 0x4008_0000_0000_0000) (Good (interaction_at s)) Bad)))
+    (cond (kind_is s 0x4000_0000_0000_0000) (cond (n == 0) None (two_of s (mode_of (place_of s 1) (n - 1))))
+    (cond (kind_is s 0x4008_0000_0000_0000) (Some (interaction_at s)) None)))
 
 -- ---- what an operation does
 

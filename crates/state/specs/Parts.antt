@@ -1,6 +1,6 @@
 -- What the inner functions ask and give: a slice that holds a state, an operation's first places, marks of modes, the vacuum's pairs. Definitions only.
 -- Only inner functions rest on this.
-use Rattle.std.specs.Prelude.{◌≡◌, ℕ, ◌+◌, ◌%◌, ◌<◌, ◌≤◌, Bool, true, false, cond, not, ◌&&◌, List, length, ◌==◌, slice_index_or, Float}
+use Rattle.std.specs.Prelude.{◌≡◌, ℕ, ◌+◌, ◌%◌, ◌<◌, ◌≤◌, Bool, false, cond, not, ◌&&◌, List, length, ◌==◌, slice_index_or, Float}
 use Rattle.std.specs.Float.Ieee.{neg}
 use Rattle.laws.specs.Bounds.{op_places}
 use Rattle.laws.specs.Zeros.{+1}
@@ -9,8 +9,6 @@ use Rattle.local.specs.Bounds.{state_places}
 use Rattle.state.specs.Bounds.{dim_of}
 use Rattle.state.specs.Modes.{unused}
 use Rattle.state.specs.Operation.{place_of}
-use Rattle.state.specs.declared.operation.Decoded.{Decoded}
-use Rattle.state.specs.declared.operation.Decoded.TheVariants.{Good, Bad}
 
 -- ---- what they ask
 
@@ -38,13 +36,6 @@ pub record NoMarks (seen : List Bool) (n : ℕ) : Type 0 where
 -- mode k is marked exactly if a qubit before q has it
 abbrev pub Marked : List ℕ → ℕ → List Bool → Type 0
 Marked l q seen = (k : ℕ) → k < length seen → slice_index_or seen k false ≡ not (unused l q k)
-
--- ---- operations
-
--- there is one
-unfoldable pub is_good : Decoded → Bool
-is_good (Good o) = true
-is_good Bad = false
 
 -- ---- the vacuum's pairs
 

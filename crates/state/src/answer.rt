@@ -1,6 +1,6 @@
-// What the state calls answer. Each case has its number, place and value in specs/Answers.antt.
+// Why a call on the state is refused. Each case has its number and place in specs/Answers.antt.
 
-#[derive(Clone, Copy)]
+#[derive(Clone, Copy, Debug, PartialEq, Eq)]
 pub enum Refusal {
     BadState, // 16
     BadOperation, // 17
@@ -9,18 +9,4 @@ pub enum Refusal {
     SmallWork, // 20
     BadShots, // 21
     BadDraw(usize), // 22, at a place of the list
-}
-
-// Of a call that gives no number.
-#[derive(Clone, Copy)]
-pub enum Applied {
-    Done,
-    Refused(Refusal),
-}
-
-// Of a query.
-#[derive(Clone, Copy)]
-pub enum Answer {
-    Value(f64),
-    Refused(Refusal),
 }

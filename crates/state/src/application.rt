@@ -3,12 +3,12 @@
 ghost use Rattle.std.specs.Prelude.{◌≡◌};
 ghost use Rattle.state.specs.Operation.{decode_of, applied, Fits};
 ghost use Rattle.state.specs.Answers.{done};
-ghost use Rattle.state.specs.Calls.{decoded_state, apply_answer, apply_state};
-ghost use Rattle.state.specs.Parts.{HasState, HasHead, is_good};
+ghost use Rattle.state.specs.Calls.{decoded_answer, decoded_state, apply_answer, apply_state};
+ghost use Rattle.state.specs.Parts.{HasState, HasHead};
 
-use super::answer::{Applied, Refusal};
-use super::check::state_ok;
-use super::operation::{Decoded, Operation, decode};
+use super::answer::Refusal;
+use super::check::check_state;
+use super::operation::{Operation, decode};
 use laws::OP_PLACES;
 use local::{apply_local2, apply_local4};
 
@@ -30,37 +30,34 @@ pub fn apply_operation(n: usize, state: &mut [f64], o: Operation)
     }
 }
 
-// From its places, to a state of n qubits; whether there is one (question 17). The caller hands over the first two, `kind`
-// and `at`, and so in registers: the mode is needed before anything else, and out of the slice it would come later.
-pub fn apply_places(n: usize, state: &mut [f64], kind: f64, at: f64, op: &[f64]) -> bool
+// From its places, to a state of n qubits: question 17. The caller hands over the first two, `kind` and `at`, and so in
+// registers: the mode is needed before anything else, and out of the slice it would come later.
+pub fn apply_places(
+    n: usize,
+    state: &mut [f64],
+    kind: f64,
+    at: f64,
+    op: &[f64],
+) -> Result<(), Refusal>
     requires has_state { HasState state.old n }
     requires has_head { HasHead op.now kind at }
-    ensures answer { result ≡ is_good (decode_of n op.now) }
+    ensures answer { done result ≡ decoded_answer (decode_of n op.now) }
     ensures state { state.new ≡ decoded_state n state.old (decode_of n op.now) }
 {
-    let d = decode(n, kind, at, op);
-    match d {
-        Decoded::Good(o) => {
-            apply_operation(n, state, o);
-            true
-        }
-        Decoded::Bad => false,
-    }
+    let o = decode(n, kind, at, op).ok_or(Refusal::BadOperation)?;
+    apply_operation(n, state, o);
+    Ok(())
 }
 
 // The operation in `op` is applied to the state of n qubits: questions 16 and 17. A refusal changes
 // nothing.
-pub fn apply(n: usize, state: &mut [f64], modes: &[u16], op: &[f64]) -> Applied
+pub fn apply(n: usize, state: &mut [f64], modes: &[u16], op: &[f64]) -> Result<(), Refusal>
     ensures answer { done result ≡ apply_answer n state.old modes.now op.now }
     ensures state { state.new ≡ apply_state n state.old modes.now op.now }
 {
-    if state_ok(n, state, modes) {
-        if op.len() >= OP_PLACES {
-            if apply_places(n, state, op[0], op[1], op) {
-                return Applied::Done;
-            }
-        }
-        return Applied::Refused(Refusal::BadOperation);
+    check_state(n, state, modes)?;
+    if op.len() < OP_PLACES {
+        return Err(Refusal::BadOperation);
     }
-    Applied::Refused(Refusal::BadState)
+    apply_places(n, state, op[0], op[1], op)
 }

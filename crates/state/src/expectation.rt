@@ -6,8 +6,8 @@ ghost use Rattle.state.specs.Answers.{told};
 ghost use Rattle.state.specs.Calls.{expectation_z_of};
 ghost use Rattle.state.specs.Parts.{HasEntry};
 
-use super::answer::{Answer, Refusal};
-use super::check::{mode_at, state_ok};
+use super::answer::Refusal;
+use super::checked::Checked;
 use real::entry;
 
 // 001's `get`.
@@ -20,16 +20,13 @@ pub fn covariance(state: &[f64], dim: usize, r: usize, c: usize) -> f64
 }
 
 // Z of qubit q: questions 16 and 19.
-pub fn expectation_z(n: usize, state: &[f64], modes: &[u16], q: usize) -> Answer
+pub fn expectation_z(n: usize, state: &[f64], modes: &[u16], q: usize) -> Result<f64, Refusal>
     ensures { told result ≡ expectation_z_of n state.now modes.now q }
 {
-    if state_ok(n, state, modes) {
-        if q < n {
-            let k = mode_at(modes, q);
-            let x = covariance(state, 2 * n, 2 * k, 2 * k + 1);
-            return Answer::Value(x);
-        }
-        return Answer::Refused(Refusal::BadQubit(0));
+    let checked = Checked::new(n, state, modes)?;
+    if q >= n {
+        return Err(Refusal::BadQubit(0));
     }
-    Answer::Refused(Refusal::BadState)
+    let k = checked.mode_of(q);
+    Ok(checked.get(2 * k, 2 * k + 1))
 }

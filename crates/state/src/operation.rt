@@ -7,7 +7,7 @@ ghost use Rattle.state.specs.Parts.{HasHead};
 
 use real::{Map2, Map4, Real2, Real4};
 
-// The unit of an interaction's phase.
+// The unit of an interaction's phase. Not gate's Complex: nothing is computed with it, and this crate needs nothing else of that one.
 #[derive(Clone, Copy)]
 pub struct Unit {
     pub re: f64,
@@ -32,18 +32,6 @@ pub enum Operation {
     },
 }
 
-#[derive(Clone, Copy)]
-pub enum Decoded {
-    Good(Operation),
-    Bad,
-}
-
-#[derive(Clone, Copy)]
-pub enum Mode {
-    At(usize),
-    Nowhere,
-}
-
 const TWO_52: f64 = 4503599627370496.0; // from here up to twice as much an f64 is a whole number, by its last digits
 
 const DIGITS: u64 = 1 << 52; // a pattern modulo this is the last digits
@@ -56,36 +44,33 @@ fn near(x: f64) -> usize
 }
 
 // The whole number from 0 and below n that x is, found by cutting off its fraction.
-fn mode_by_cut(x: f64, n: usize) -> Mode
+fn mode_by_cut(x: f64, n: usize) -> Option<usize>
     ensures { result ≡ mode_of x n }
 {
-    if x > -1.0 {
-        if x < 18446744073709551616.0 {
-            let k = std::num::truncating_f64_to_u64(x);
-            if std::num::nearest_u64_to_f64(k) == x {
-                let i = k as usize;
-                if i < n {
-                    return Mode::At(i);
-                }
+    if x > -1.0 && x < 18446744073709551616.0 {
+        let k = std::num::truncating_f64_to_u64(x);
+        if std::num::nearest_u64_to_f64(k) == x {
+            let i = k as usize;
+            if i < n {
+                return Some(i);
             }
         }
     }
-    Mode::Nowhere
+    None
 }
 
 // The whole number from 0 and below n that x is. Everything after waits for it, so a quick guess is tested first.
-pub fn mode_of(x: f64, n: usize) -> Mode
+pub fn mode_of(x: f64, n: usize) -> Option<usize>
     ensures { result ≡ mode_of x n }
 {
     let i = near(x);
-    if i < n {
-        if (i as f64) == x {
-            return Mode::At(i);
-        }
+    if i < n && (i as f64) == x {
+        return Some(i);
     }
     mode_by_cut(x, n)
 }
 
+// Two sizes, two functions, here and below: rows are structs of floats by value.
 fn real2_at(s: &[f64], at: usize) -> Real2
     requires { at + 2 ≤ length s.now }
     ensures { result ≡ real2_of s.now at }
@@ -142,36 +127,30 @@ fn interaction_at(s: &[f64]) -> Operation
 }
 
 // The operation on n modes in the first places of s, of which `kind` and `at` are the first two. An interaction's
-// mode is not questioned.
-pub fn decode(n: usize, kind: f64, at: f64, s: &[f64]) -> Decoded
+// mode is not questioned. By tests: the kind is one of the floats that are lent, and a float is compared, not matched.
+pub fn decode(n: usize, kind: f64, at: f64, s: &[f64]) -> Option<Operation>
     requires { HasHead s.now kind at }
     ensures { result ≡ decode_of n s.now }
 {
     if kind == 1.0 {
-        let found = mode_of(at, n);
-        return match found {
-            Mode::At(mode) => Decoded::Good(Operation::One {
-                mode,
-                q: map2_at(s),
-            }),
-            Mode::Nowhere => Decoded::Bad,
-        };
+        let mode = mode_of(at, n)?;
+        return Some(Operation::One {
+            mode,
+            q: map2_at(s),
+        });
     }
     if kind == 2.0 {
         if n == 0 {
-            return Decoded::Bad;
+            return None;
         }
-        let found = mode_of(at, n - 1);
-        return match found {
-            Mode::At(mode) => Decoded::Good(Operation::Two {
-                mode,
-                q: map4_at(s),
-            }),
-            Mode::Nowhere => Decoded::Bad,
-        };
+        let mode = mode_of(at, n - 1)?;
+        return Some(Operation::Two {
+            mode,
+            q: map4_at(s),
+        });
     }
     if kind == 3.0 {
-        return Decoded::Good(interaction_at(s));
+        return Some(interaction_at(s));
     }
-    Decoded::Bad
+    None
 }

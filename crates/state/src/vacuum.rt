@@ -7,7 +7,7 @@ ghost use Rattle.local.specs.State as spec;
 ghost use Rattle.state.specs.Bounds.{dim_of};
 ghost use Rattle.state.specs.Parts.{HasState, pair_up_of};
 
-use real::{fill, put};
+use real::put;
 
 // 1.0 and -1.0 beside the diagonal, for each of n modes.
 fn pair_up(m: &mut [f64], n: usize)
@@ -15,11 +15,9 @@ fn pair_up(m: &mut [f64], n: usize)
     ensures { m.new ≡ matrix (dim_of n) (pair_up_of (at (dim_of n) m.old)) m.old }
 {
     let dim = 2 * n;
-    let mut k = 0;
-    while k < n {
+    for k in 0..n {
         put(m, dim, 2 * k, 2 * k + 1, 1.0);
         put(m, dim, 2 * k + 1, 2 * k, -1.0);
-        k += 1;
     }
 }
 
@@ -30,7 +28,7 @@ pub fn vacuum(n: usize, state: &mut [f64])
 {
     let dim = 2 * n;
     let a = dim * dim;
-    fill(state, a, 0.0);
+    state[..a].fill(0.0);
     pair_up(state, n);
-    fill(&mut state[a..a + dim], dim, 1.0);
+    state[a..a + dim].fill(1.0);
 }

@@ -1,14 +1,13 @@
 -- `queries::basis::basis_bit` meets its contract, by its test. Assumes nothing.
-use borrow.Author.Tests.{lt-ltb, le-ltb}
+use Rattle.std.proofs.Common.{arith, lt-ltb, le-ltb}
 use Rattle.queries.specs.Basis.{basis_bit_of}
+use Rattle.queries.proofs.Marking.{read_is}
 use Rattle.queries.proofs.basis.basis_bit.Goals as goal
 
 pub returns-then-q-lt-WORD_BITS : goal.returns-then-q-lt-WORD_BITS
 unfolding basis_bit_of
-returns-then-q-lt-WORD_BITS c =
-    record { value = rw (lt-ltb _ _ c.if-q-lt-WORD_BITS.true) c.word_bit.ensures.value; bound = c.word_bit.ensures.bound }
+returns-then-q-lt-WORD_BITS c = rw (lt-ltb _ _ c.if-q-lt-WORD_BITS.true) (read_is _ (omega arith))
 
-pub returns : goal.returns
+pub returns-else-q-lt-WORD_BITS : goal.returns-else-q-lt-WORD_BITS
 unfolding basis_bit_of
-returns c =
-    record { value = rw (le-ltb _ _ c.if-q-lt-WORD_BITS.false) c.word_bit-2.ensures.value; bound = c.word_bit-2.ensures.bound }
+returns-else-q-lt-WORD_BITS c = rw (le-ltb _ _ c.if-q-lt-WORD_BITS.false) (read_is _ (omega arith))

@@ -1,14 +1,9 @@
 -- `queries::lists::list_modes` meets its contract: the modes passed are listed. Assumes nothing.
-use mathlib.Core.Path.{◌≡◌}
-use Prim.Native.Nat.{◌-◌, ◌≤◌}
-use lib.ListN.{length, get_or}
-use Rattle.queries.specs.Lists.{noted_modes}
-use Rattle.queries.specs.Inner.{Listed}
+use Rattle.std.proofs.Common.{◌≡◌, ℕ, ◌<◌, ◌≤◌, Bool, length, take}
+use Rattle.queries.specs.Lists.{passing}
 use Rattle.queries.proofs.lists.list_modes.Given as goal
 
 abbrev pub invariant-loop-k : goal.invariant-loop-k
-invariant-loop-k l =
-    ((l.k ≤ l.n) × (l.count ≤ l.k) × (length l.list ≡ length l.initial.list)) × Listed (noted_modes l.k (λ j. get_or l.marks j 0)) l.count l.list
-
-abbrev pub decreases-loop-k : goal.decreases-loop-k
-decreases-loop-k l = l.n - l.k
+invariant-loop-k g l =
+    (l.count ≤ l.k) × (length l.list ≡ length l.initial.list)
+    × ((p : ℕ → Bool) → ((k : ℕ) (b : Bool) → k < l.n → g.F.Fn.post l.left (k, tt {0}) b → b ≡ p k) → take l.count l.list ≡ passing p l.k)

@@ -1,99 +1,73 @@
 -- `queries::marginals::marginal_probability` meets its contract, by its questions. Assumes nothing.
-use mathlib.Core.Path.{◌≡◌, sym, ap, ◌∙◌}
-use Prim.Native.Nat.{ℕ, ◌<◌}
-use borrow.Author.Tests.{lt-ltb, le-ltb}
-use lib.ListN.{get_or}
-use mathlib.Core.Bool.{◌||◌}
+use Rattle.std.proofs.Common.{◌≡◌, ℕ, ◌<◌, take, sym, ap, ◌∙◌, lt-ltb, le-ltb, le-leb, le_of_eq}
+use Rattle.std.proofs.lemmas.Result.{err_from_is_err_and}
+use borrow.Author.Tests.{lt-leb}
+use lib.Ieee.{of_bits}
 use Rattle.state.specs.Answers.{told, refusal}
-use Rattle.state.proofs.Questions.{Asked}
-use Rattle.state.proofs.Questions as questions
-use Rattle.queries.specs.Lists.{outside, mode_listed, bit_listed, contradicts, noted, asked, stop_place}
-use Rattle.queries.specs.Calls.{covariance_of, marginal_probability_of, marginal_probability_work}
-use Rattle.queries.proofs.Searches.{first-end}
-use Rattle.queries.proofs.Marking.{marked-none}
+use Rattle.queries.specs.Lists.{mode_listed, bit_listed, noted, asked}
+use Rattle.queries.specs.Calls.{covariance_of, stopped_of, marked_answer, marked_work, marginal_probability_of, marginal_probability_work}
+use Rattle.queries.specs.Inner.{mark_at}
+use Rattle.queries.proofs.Marking.{marked-none, marked-front}
 use Rattle.queries.proofs.Leaving.{answer-alike, work-alike}
 use Rattle.queries.proofs.marginals.marginal_probability.Goals as goal
 
-pub note_bits-place-requires : goal.note_bits-place-requires
-note_bits-place-requires c =
-    let g = questions.asked c.args.n c.args.state.now c.args.modes.now (sym c.state_ok.ensures ∙ c.if-state_ok.true) in
-    record { modes_value = g.permutation; bits_value = sym c.bits_ok.ensures ∙ c.if-bits_ok.true; marked = marked-none _ g.few }
+pub returns-in_err-checked : goal.returns-in_err-checked
+unfolding told refusal marginal_probability_of marginal_probability_work
+returns-in_err-checked c =
+    let p = err_from_is_err_and c.from_residual.result c.from_residual.ensures.1 in
+    let e = c.in_err-checked.ensures in
+    record { answer = rw (p.1, p.2, e.0, e.1); work = rw e.1 }
 
-pub returns-then-place-qubits : goal.returns-then-place-qubits
+pub returns-in_err-check_bits : goal.returns-in_err-check_bits
+unfolding told refusal marginal_probability_of marginal_probability_work
+returns-in_err-check_bits c =
+    let p = err_from_is_err_and c.from_residual-in_err-check_bits.result c.from_residual-in_err-check_bits.ensures.1 in
+    let e = c.in_ok-checked.ensures in
+    let b = c.in_err-check_bits.ensures in
+    record { answer = rw (p.1, p.2, b.0, e.0, b.1); work = rw (e.0, b.1) }
+
+pub note_bits-requires-clause-none : goal.note_bits-requires-clause-none
+note_bits-requires-clause-none c = marked-none _ _ _ c.in_ok-checked.checked.few
+
+pub returns-in_err-note_bits : goal.returns-in_err-note_bits
+unfolding told refusal stopped_of marginal_probability_of marginal_probability_work
+returns-in_err-note_bits c =
+    let p = err_from_is_err_and c.from_residual-in_err-note_bits.result c.from_residual-in_err-note_bits.ensures.1 in
+    let e = c.in_ok-checked.ensures in
+    let b = c.in_ok-check_bits.ensures in
+    let m = rw (e.1, e.3) at c.in_err-note_bits.ensures.answer in
+    record { answer = rw (p.1, p.2, m.2, e.0, b, lt-ltb _ _ m.0, le-leb _ _ m.1); work = rw (e.0, b, lt-ltb _ _ m.0) }
+
+pub returns-in-Agreeing : goal.returns-in-Agreeing
 unfolding marginal_probability_of marginal_probability_work
-returns-then-place-qubits c =
-    let o = c.state_ok.ensures in
-    let q = c.bits_ok.ensures in
-    let p = c.note_bits-place.ensures.place in
-    record {
-      answer = rw (
-        ← o,
-        c.if-state_ok.true,
-        ← q,
-        c.if-bits_ok.true,
-        ← p,
-        lt-ltb _ _ c.if-place-qubits.true,
-      ) c.stopped.ensures;
-      work = rw (
-        ← o,
-        c.if-state_ok.true,
-        ← q,
-        c.if-bits_ok.true,
-        ← p,
-        lt-ltb _ _ c.if-place-qubits.true,
-      );
-    }
-
-pub marked_probability-requires : goal.marked_probability-requires
-marked_probability-requires c =
-    let g = questions.asked c.args.n c.args.state.now c.args.modes.now (sym c.state_ok.ensures ∙ c.if-state_ok.true) in
-    record { ready = record { few = g.few; room = g.room }; n_in_bounds = c.note_bits-place.ensures.marks.long }
-
-pub returns-then-bits_ok : goal.returns-then-bits_ok
-unfolding marginal_probability_of marginal_probability_work stop_place
-returns-then-bits_ok c =
-    let e = c.args in
-    let o = c.state_ok.ensures in
-    let q = c.bits_ok.ensures in
-    let m = c.note_bits-place in
+returns-in-Agreeing c =
+    let a = c.args in
+    let checked = c.in_ok-checked.checked in
+    let e = c.in_ok-checked.ensures in
+    let b = c.in_ok-check_bits.ensures in
+    let m = c.in_ok-note_bits.ensures in
     let r = c.marked_probability.ensures in
-    let h = c.if-place-qubits.false in
-    let mode = mode_listed e.modes.now e.qubits.now in
-    let bit = bit_listed e.bits.now in
-    let end = first-end (λ j. outside e.n e.qubits.now j || contradicts mode bit j) _ m.result m.ensures.place h in
-    let f = asked e.modes.now e.qubits.now e.bits.now in
-    let alike : (k : ℕ) → k < e.n → get_or m.new.marks k 0 ≡ f k =
-    λ k b. m.ensures.marks.each k b ∙ ap (λ i. noted mode bit i k) end in
+    let n = checked.n in
+    let all = rw c.in-Agreeing.is at m.answer in
+    let end = le-ltb _ _ (le_of_eq (sym (rw (e.1, e.3) at all))) in
+    let mode = mode_listed checked.modes.now a.qubits.now in
+    let bit = bit_listed a.bits.now in
+    let f = asked checked.modes.now a.qubits.now a.bits.now in
+    let marked = marked-front _ _ n a.n _ _ (sym e.1) m.asked in
+    let alike : (k : ℕ) → k < n → mark_at (take a.n c.note_bits.new.asked) k ≡ f k = λ k h. marked.each k h ∙ ap (λ i. noted mode bit i k) all in
+    let w = a.work.now in
     record {
-      answer = rw (
-        ← o,
-        c.if-state_ok.true,
-        ← q,
-        c.if-bits_ok.true,
-        ← m.ensures.place,
-        le-ltb _ _ h,
-      )
-          (r.answer ∙ answer-alike e.n _ f alike (covariance_of e.n e.state.now) e.work.now);
-      work = rw (
-        ← o,
-        c.if-state_ok.true,
-        ← q,
-        c.if-bits_ok.true,
-        ← m.ensures.place,
-        le-ltb _ _ h,
-      ) (r.work
-          ∙ work-alike e.n _ f alike e.work.now);
+      answer = rw (e.0, b, end)
+          (r.answer ∙ answer-alike n _ f alike (covariance_of n checked.state.now) w
+          ∙ (λ t. marked_answer (covariance_of (e.1 t) (e.2 t)) (e.1 t) (asked (e.3 t) a.qubits.now a.bits.now) w));
+      work = rw (e.0, b, end) (r.work ∙ work-alike n _ f alike w ∙ (λ t. marked_work (e.1 t) (asked (e.3 t) a.qubits.now a.bits.now) w));
     }
 
-pub returns-then-state_ok : goal.returns-then-state_ok
-unfolding told refusal marginal_probability_of marginal_probability_work
-returns-then-state_ok c =
-    let o = c.state_ok.ensures in
-    let q = c.bits_ok.ensures in
-    record { answer = rw (← o, c.if-state_ok.true, ← q, c.if-bits_ok.false); work = rw (← o, c.if-state_ok.true, ← q, c.if-bits_ok.false) }
-
-pub returns : goal.returns
-unfolding told refusal marginal_probability_of marginal_probability_work
-returns c =
-    let o = c.state_ok.ensures in
-    record { answer = rw (← o, c.if-state_ok.false); work = rw (← o, c.if-state_ok.false) }
+pub returns-in-Contradictory : goal.returns-in-Contradictory
+unfolding told of_bits stopped_of marginal_probability_of marginal_probability_work
+returns-in-Contradictory c =
+    let e = c.in_ok-checked.ensures in
+    let b = c.in_ok-check_bits.ensures in
+    let says = rw c.in-Contradictory.is at c.in_ok-note_bits.ensures.answer in
+    let stop = rw (e.1, e.3) at says in
+    record { answer = rw (e.0, b, lt-ltb _ _ stop.0, lt-leb _ _ stop.1); work = rw (e.0, b, lt-ltb _ _ stop.0) }

@@ -1,23 +1,25 @@
 -- `queries::marginals::odd_ones` meets its contract: the parity of the modes passed. Assumes nothing.
-use mathlib.Core.Path.{◌≡◌, refl}
-use native.Mathlib.Omega.{arith}
-use lib.ListN.{get_or}
+use Rattle.std.proofs.Common.{◌≡◌, Bool, true, false, not, cond, refl, ap, ◌∙◌}
+use mathlib.Core.Bool.{beq}
 use Rattle.queries.specs.Lists.{oddly}
 use Rattle.queries.specs.Marginals.{is_one}
+use Rattle.queries.specs.Inner.{mark_at}
 use Rattle.queries.proofs.Searches.{odd-more}
+use Rattle.queries.proofs.Marking.{asked_one}
 use Rattle.queries.proofs.marginals.odd_ones.Goals as goal
 
-pub loop-k-init : goal.loop-k-init
+pub loop-bit-init : goal.loop-bit-init
 unfolding oddly
-loop-k-init c = (omega arith, refl)
+loop-bit-init c = refl
 
-pub loop-k-preserved : goal.loop-k-preserved
-loop-k-preserved c =
-    let l = c.loop-k in
-    (omega arith, odd-more (λ j. is_one (get_or c.args.marks.now j 0)) l.k _ _ l.invariant.1 c.turned-odd.ensures)
+xor : (a b : Bool) → not (beq a b) ≡ cond b (not a) a
+xor true true = refl
+xor true false = refl
+xor false true = refl
+xor false false = refl
 
-pub returns : goal.returns
-returns c =
-    let l = c.loop-k in
-    let z : l.k ≡ c.args.n = omega arith in
-    rw z at l.invariant.1
+pub loop-bit-preserved : goal.loop-bit-preserved
+loop-bit-preserved c =
+    let l = c.loop-bit in
+    odd-more (λ k. is_one (mark_at c.args.asked.now k)) l.bit-index _ _ l.invariant
+    (xor l.odd _ ∙ ap (λ b. cond b (not l.odd) l.odd) (c.unwrap_or-odd.ensures ∙ asked_one _))

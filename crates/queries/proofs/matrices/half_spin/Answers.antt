@@ -1,12 +1,15 @@
 -- `queries::matrices::half_spin` meets its contract, by its test. Assumes nothing.
-use borrow.Author.Tests.{eq-eqb, ne_eqb}
+use Rattle.std.proofs.Common.{sym, ◌∙◌}
 use lib.Ieee.{of_bits}
+use Rattle.queries.proofs.Marking.{asked_one}
 use Rattle.queries.proofs.matrices.half_spin.Goals as goal
 
-pub returns-then-mark-eq2 : goal.returns-then-mark-eq2
+pub returns-then-unwrap_or : goal.returns-then-unwrap_or
 unfolding of_bits
-returns-then-mark-eq2 c = rw (eq-eqb _ _ c.if-mark-eq2.true)
+returns-then-unwrap_or c =
+    rw (sym (asked_one c.args.asked) ∙ sym c.unwrap_or.ensures ∙ c.if-unwrap_or.true)
 
-pub returns-else-mark-eq2 : goal.returns-else-mark-eq2
+pub returns-else-unwrap_or : goal.returns-else-unwrap_or
 unfolding of_bits
-returns-else-mark-eq2 c = rw (ne_eqb _ _ c.if-mark-eq2.false)
+returns-else-unwrap_or c =
+    rw (sym (asked_one c.args.asked) ∙ sym c.unwrap_or.ensures ∙ c.if-unwrap_or.false)

@@ -1,28 +1,13 @@
 -- `queries::matrices::restrict` meets its contract: a row a turn (`rows_more`). Assumes nothing.
-use native.Mathlib.Omega.{arith}
+use Rattle.std.proofs.Common.{arith}
 use Rattle.queries.proofs.Filling.{rows_start, rows_more, rows-done}
 use Rattle.queries.proofs.matrices.restrict.Goals as goal
 
 pub loop-r-init : goal.loop-r-init
-loop-r-init c = (omega arith, rows_start _ _ _)
-
-pub restrict_row-requires : goal.restrict_row-requires
-restrict_row-requires c =
-    let h = c.loop-r-test.true in
-    record { ready = c.requires.ready; modes = c.requires.modes; inside = record { room = rw c.loop-r.invariant.1.long c.requires.count_in_bounds; row = h; col = h } }
+loop-r-init c = rows_start _ _ _
 
 pub loop-r-preserved : goal.loop-r-preserved
-loop-r-preserved c = (
-  omega arith,
-  rows_more _ _ _ _ _ _ c.requires.count_in_bounds
-      c.loop-r.invariant.1 c.restrict_row.ensures,
-)
-
-pub shape_of-work : goal.shape_of-work
-shape_of-work c = c.loop-r.invariant.1.long
+loop-r-preserved c = rows_more _ _ _ _ _ _ c.requires.room c.loop-r.invariant c.restrict_row.ensures
 
 pub returns : goal.returns
-returns c = rows-done _ _ _ _ _ c.requires.count_in_bounds c.loop-r-test.false c.loop-r.invariant.1
-
-pub overflow_mul-dim : goal.overflow_mul-dim
-overflow_mul-dim c = omega (arith, c.requires.modes.fits)
+returns c = rows-done _ _ _ _ _ c.requires.room (omega arith) c.loop-r.invariant

@@ -1,6 +1,6 @@
 -- `queries::samples::take_shots` meets its contract: the words of the shots passed are written, and work is kept but for its matrix. Assumes nothing.
 use mathlib.Core.Path.{◌≡◌}
-use Prim.Native.Nat.{◌*◌, ◌-◌, ◌≤◌}
+use Prim.Native.Nat.{◌*◌}
 use Rattle.pfaffian.specs.Work.{Kept}
 use Rattle.queries.specs.Samples.{shot_at}
 use Rattle.queries.specs.Calls.{covariance_of}
@@ -9,7 +9,6 @@ use Rattle.queries.proofs.samples.take_shots.Given as goal
 
 abbrev pub invariant-loop-i : goal.invariant-loop-i
 invariant-loop-i l =
-    ((l.i ≤ l.shots) × (l.first ≡ l.i * l.n)) × Kept (2 * l.n) l.initial.work l.work × Written (shot_at (covariance_of l.n l.state) l.n l.modes l.draws) l.i l.initial.out l.out
-
-abbrev pub decreases-loop-i : goal.decreases-loop-i
-decreases-loop-i l = l.shots - l.i
+    (l.n ≡ l.checked.n)
+    × Kept (2 * l.checked.n) l.initial.work l.work
+    × Written (shot_at (covariance_of l.checked.n l.checked.state.now) l.checked.n l.checked.modes.now l.draws) l.i l.initial.out l.out

@@ -1,38 +1,34 @@
 -- `state::application::apply` meets its contract, by its questions. Assumes nothing.
-use Rattle.std.proofs.Common.{sym, refl, ◌∙◌, lt-ltb}
+use Rattle.std.proofs.Common.{refl, lt-ltb}
+use Rattle.std.proofs.lemmas.Result.{err_from_is_err_and}
 use Rattle.state.specs.Answers.{done, refusal}
 use Rattle.state.specs.Operation.{decode_of}
 use Rattle.state.specs.Calls.{decoded_answer, decoded_state, apply_answer, apply_state}
 use Rattle.state.proofs.Questions.{asked}
-use Rattle.state.proofs.Operations.{taken, not_taken}
 use Rattle.state.proofs.application.apply.Goals as goal
+
+pub returns-in_err-check_state : goal.returns-in_err-check_state
+unfolding done refusal apply_answer apply_state
+returns-in_err-check_state c =
+    let p = err_from_is_err_and c.from_residual.result c.from_residual.ensures.1 in
+    let e = c.in_err-check_state.ensures in
+    record { answer = rw (p.1, p.2, e.0, e.1); state = rw e.1 }
+
+-- too short to be one
+pub returns-then-op-lt-OP_PLACES : goal.returns-then-op-lt-OP_PLACES
+unfolding done refusal apply_answer apply_state decode_of decoded_answer decoded_state
+returns-then-op-lt-OP_PLACES c =
+    let e = c.in_ok-check_state.ensures in
+    let short = lt-ltb _ _ c.if-op-lt-OP_PLACES.true in
+    record { answer = rw (e, short); state = rw (e, short) }
 
 pub apply_places-requires : goal.apply_places-requires
 apply_places-requires c =
-    record { has_state = record { room = (asked _ _ _ (sym c.state_ok.ensures ∙ c.if-state_ok.true)).room }; has_head = record { room = c.if-op-ge-OP_PLACES.true; first = refl; second = refl } }
-
-pub returns-then-apply_places : goal.returns-then-apply_places
-unfolding done apply_answer apply_state
-returns-then-apply_places c =
-    let e = c.state_ok.ensures in
-    record { answer = rw (← e, c.if-state_ok.true, taken _ (sym c.if-apply_places.true ∙ c.apply_places.ensures.answer)); state = rw (← e, c.if-state_ok.true) c.apply_places.ensures.state }
-
-pub returns-else-apply_places : goal.returns-else-apply_places
-unfolding done refusal apply_answer apply_state
-returns-else-apply_places c =
-    let e = c.state_ok.ensures in
-    record { answer = rw (← e, c.if-state_ok.true, not_taken _ (sym c.if-apply_places.false ∙ c.apply_places.ensures.answer)); state = rw (← e, c.if-state_ok.true) c.apply_places.ensures.state }
-
--- too short to be one
-pub returns-else-op-ge-OP_PLACES : goal.returns-else-op-ge-OP_PLACES
-unfolding done refusal apply_answer apply_state decode_of decoded_answer decoded_state
-returns-else-op-ge-OP_PLACES c =
-    let e = c.state_ok.ensures in
-    let short = lt-ltb _ _ c.if-op-ge-OP_PLACES.false in
-    record { answer = rw (← e, c.if-state_ok.true, short); state = rw (← e, c.if-state_ok.true, short) }
+    let room = (asked _ _ _ c.in_ok-check_state.ensures).room in
+    record { has_state = record { room = room }; has_head = record { room = c.if-op-lt-OP_PLACES.false; first = refl; second = refl } }
 
 pub returns : goal.returns
-unfolding done refusal apply_answer apply_state
+unfolding apply_answer apply_state
 returns c =
-    let e = c.state_ok.ensures in
-    record { answer = rw (← e, c.if-state_ok.false); state = rw (← e, c.if-state_ok.false) }
+    let e = c.in_ok-check_state.ensures in
+    record { answer = rw e c.apply_places.ensures.answer; state = rw e c.apply_places.ensures.state }

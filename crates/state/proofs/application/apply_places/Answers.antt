@@ -1,22 +1,34 @@
 -- `state::application::apply_places` meets its contract, by the cases of what was decoded. Assumes nothing.
-use Rattle.std.proofs.Common.{sym, ◌∙◌}
-use Rattle.state.specs.Calls.{decoded_state}
-use Rattle.state.specs.Parts.{is_good}
+use Rattle.std.proofs.Common.{◌≡◌, Option, None, Err, sym, ◌∙◌}
+use Rattle.std.specs.Option.{ok_or}
+use Rattle.std.proofs.lemmas.Result.{err_from_is_err_and}
+use Rattle.state.specs.Answers.{done, refusal}
+use Rattle.state.specs.Calls.{decoded_answer, decoded_state}
+use Rattle.state.specs.declared.answer.Refusal.{Refusal}
+use Rattle.state.specs.declared.answer.Refusal.TheVariants.{BadOperation}
+use Rattle.state.specs.declared.operation.Operation.{Operation}
 use Rattle.state.proofs.Operations.{decode-fits}
 use Rattle.state.proofs.application.apply_places.Goals as goal
 
+-- the refusal where there is no operation
+why_is : (o : Option Operation) (e : Refusal) → o ≡ None → Err e ≡ ok_or o BadOperation → e ≡ BadOperation
+why_is o e n h = let g = rw n at h in cc
+
+pub returns-in_err-o : goal.returns-in_err-o
+unfolding done refusal decoded_answer decoded_state
+returns-in_err-o c =
+    let p = err_from_is_err_and c.from_residual.result c.from_residual.ensures.1 in
+    let e = c.in_err-o.ensures in
+    let none = sym c.decode.ensures ∙ e.ok_part in
+    let why : c.in_err-o.field-0.0 ≡ BadOperation = why_is _ _ e.ok_part e.value in
+    record { answer = rw (p.1, p.2, why, none); state = rw none }
+
 pub apply_operation-requires : goal.apply_operation-requires
 apply_operation-requires c =
-    record { has_state = c.requires.has_state; fits = decode-fits c.args.n c.args.op.now _ (sym c.decode-d.ensures ∙ c.in-Good.is) }
+    record { has_state = c.requires.has_state; fits = decode-fits c.args.n c.args.op.now _ (sym c.decode.ensures ∙ c.in_ok-o.ensures.ok_part) }
 
-pub returns-in-Good : goal.returns-in-Good
-unfolding is_good decoded_state
-returns-in-Good c =
-    let e = c.decode-d.ensures in
-    record { answer = rw (← e, c.in-Good.is); state = rw (← e, c.in-Good.is) c.apply_operation.ensures }
-
-pub returns-in-Bad : goal.returns-in-Bad
-unfolding is_good decoded_state
-returns-in-Bad c =
-    let e = c.decode-d.ensures in
-    record { answer = rw (← e, c.in-Bad.is); state = rw (← e, c.in-Bad.is) }
+pub returns : goal.returns
+unfolding done decoded_answer decoded_state
+returns c =
+    let some = sym c.decode.ensures ∙ c.in_ok-o.ensures.ok_part in
+    record { answer = rw some; state = rw some c.apply_operation.ensures }

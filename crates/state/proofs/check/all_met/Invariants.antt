@@ -1,11 +1,8 @@
 -- `state::check::all_met` meets its contract: the words are those of the modes met so far (`words_more`), and at the end they tell (`words-all`).
 -- Assumes nothing.
-use Rattle.std.proofs.Common.{◌≡◌, ◌-◌, ◌%◌, ◌≤◌}
+use Rattle.std.proofs.Common.{length, ◌+◌, ◌*◌, ◌%◌}
 use Rattle.state.proofs.Words.{Words}
 use Rattle.state.proofs.check.all_met.Given as goal
 
-abbrev pub invariant-loop-q : goal.invariant-loop-q
-invariant-loop-q l = ((l.q ≤ l.n) × ((l.n - l.q) % 2 ≡ 0)) × Words l.n l.modes l.q l.a l.b
-
-abbrev pub decreases-loop-q : goal.decreases-loop-q
-decreases-loop-q l = l.n - l.q
+abbrev pub invariant-loop-i : goal.invariant-loop-i
+invariant-loop-i l = Words (length l.table) l.table (length l.table % 2 + 2 * l.i) l.a l.b

@@ -1,33 +1,23 @@
 -- `state::check::mark` meets its contract, a mark a turn. Assumes nothing.
-use Rattle.std.proofs.Common.{◌≡◌, ltb, subst, le_antisymm, arith, length-set, rules, ltb-true}
+use Rattle.std.proofs.Common.{◌<◌, ltb, length, refl, arith, length-set, ltb-true}
 use Rattle.laws.specs.Tables.{mode_at}
 use Rattle.laws.proofs.Tests.{all-each}
-use Rattle.state.specs.Parts.{Marked}
 use Rattle.state.proofs.Permutations.{marked-none, marked_more}
 use Rattle.state.proofs.check.mark.Goals as goal
 
-pub loop-q-init : goal.loop-q-init
-loop-q-init c =
-    (search rules, marked-none c.args.modes.now c.args.seen.now c.requires.no_marks.clear)
+pub loop-mode-init : goal.loop-mode-init
+loop-mode-init c = (refl, marked-none c.args.table.now c.args.seen.now c.requires.no_marks.clear)
 
-pub bounds-seen-mode_at : goal.bounds-seen-mode_at
-bounds-seen-mode_at c =
-    let l = c.loop-q in
-    let low = all-each (λ q. ltb (mode_at c.args.modes.now q) c.args.n) c.args.n l.q c.requires.n_value c.loop-q-test.true in
-    omega (arith, c.mode_at.ensures, ltb-true (mode_at c.args.modes.now l.q) c.args.n low, c.requires.no_marks.long, l.invariant.0.1)
+pub bounds-seen-from : goal.bounds-seen-from
+bounds-seen-from c =
+    let l = c.loop-mode in
+    let table = c.args.table.now in
+    let n = length table in
+    let some : l.mode-index < n = omega arith in
+    let low = all-each (λ q. ltb (mode_at table q) n) n l.mode-index c.requires.below some in
+    omega (arith, c.from.ensures, ltb-true (mode_at table l.mode-index) n low, c.requires.no_marks.long, l.invariant.0)
 
-pub loop-q-preserved : goal.loop-q-preserved
-loop-q-preserved c =
-    let l = c.loop-q in
-    let e = c.args in
-    (simp length-set (omega arith), marked_more e.modes.now l.q _ l.seen c.mode_at.ensures l.invariant.1)
-
-pub shape_of-seen : goal.shape_of-seen
-shape_of-seen c = c.loop-q.invariant.0.1
-
-pub returns : goal.returns
-returns c =
-    let l = c.loop-q in
-    let e = c.args in
-    let all : l.q ≡ e.n = le_antisymm l.invariant.0.0 c.loop-q-test.false in
-    subst (λ q. Marked e.modes.now q l.seen) all l.invariant.1
+pub loop-mode-preserved : goal.loop-mode-preserved
+loop-mode-preserved c =
+    let l = c.loop-mode in
+    (simp length-set l.invariant.0, marked_more c.args.table.now l.mode-index _ l.seen c.from.ensures l.invariant.1)

@@ -3,6 +3,7 @@ use Rattle.std.proofs.Common.{T, sym, subst, le-ltb, lt-ltb}
 use lib.Ieee.{of_bits, neg}
 use Rattle.state.specs.Operation.{is_whole, mode_of}
 use Rattle.state.proofs.operation.mode_by_cut.Goals as goal
+use Rattle.state.proofs.operation.mode_by_cut.Goals.{else-x-via-then-x+else-x-2, else-x-via-else-x}
 
 pub truncating_f64_to_u64-k-requires : goal.truncating_f64_to_u64-k-requires
 unfolding of_bits neg
@@ -39,10 +40,10 @@ unfolding is_whole mode_of
 returns-else-nearest_u64_to_f64-x c =
     rw (c.if-x.true, c.if-x-2.true, ← c.truncating_f64_to_u64-k.ensures, ← c.nearest_u64_to_f64.ensures, c.if-nearest_u64_to_f64-x.false)
 
-pub returns-else-x-2 : goal.returns-else-x-2
-unfolding is_whole mode_of
-returns-else-x-2 c = rw (c.if-x.true, c.if-x-2.false)
-
 pub returns-else-x : goal.returns-else-x
 unfolding is_whole mode_of
-returns-else-x c = rw c.if-x.false
+returns-else-x c =
+    elim c.else-x.branch [
+      | else-x-via-then-x+else-x-2 w ↦ rw (w.if-x.true, w.if-x-2.false)
+      | else-x-via-else-x w ↦ rw w.if-x.false
+    ]

@@ -1,14 +1,7 @@
 -- `state::operation::mode_of` meets its contract: by the guess where it is the number, else by cutting. Assumes nothing.
-use Rattle.std.proofs.Common.{◌^◌, sym, arith, le→leb}
-use lib.Ieee.{in_float}
+use Rattle.std.proofs.Common.{sym, arith}
 use Rattle.state.proofs.Wholes.{mode-is}
 use Rattle.state.proofs.operation.mode_of.Goals as goal
-
-pub int_to_float-i : goal.int_to_float-i
-unfolding in_float
-int_to_float-i c =
-    let near = c.near-i in
-    le→leb near.result (2 ^ 53) (omega (arith, near.ensures))
 
 pub returns-then-i-x : goal.returns-then-i-x
 returns-then-i-x c =
