@@ -11,6 +11,7 @@ use lib.ListN.{length, drop}
 use lib.Seq.{drop-length}
 use lib.Ieee.{Float}
 use borrow.Author.Count.{below_more}
+use Rattle.fuse.specs.Layout.{exchanged_marks}
 use Rattle.laws.specs.Slices.{traded}
 use Rattle.laws.specs.Views.{down_to}
 use Rattle.laws.proofs.Cases.{eq-or-ne}
@@ -128,11 +129,11 @@ slot_is xs us n k swaps q l = get_or-list_of n (λ q. mark_at us q lab_column) q
 
 module _ (us : List ℕ) (a b : ℕ) where
   pub swapped-size : length (swapped_marks us a b) ≡ length us
-  unfolding swapped_marks
+  unfolding exchanged_marks
   swapped-size = put-size (put_mark us a 4 (mark_at us b 4)) b 4 (mark_at us a 4) ∙ put-size us a 4 (mark_at us b 4)
 
   swapped-column : (j d : ℕ) → d < 4 → mark_at (swapped_marks us a b) j d ≡ mark_at us j d
-  unfolding swapped_marks
+  unfolding exchanged_marks
   swapped-column j d h =
       put-column (put_mark us a 4 (mark_at us b 4)) b 4 (mark_at us a 4) j d (omega arith) (omega arith) (λ e. omega arith)
       ∙ put-column us a 4 (mark_at us b 4) j d (omega arith) (omega arith) (λ e. omega arith)
@@ -142,15 +143,15 @@ module _ (us : List ℕ) (a b : ℕ) where
     lab j = mark_at (swapped_marks us a b) j lab_column
 
     lab-b : lab b ≡ mark_at us a lab_column
-    unfolding swapped_marks
+    unfolding exchanged_marks
     lab-b = put-here (put_mark us a 4 (mark_at us b 4)) b 4 (mark_at us a 4) (omega (arith, put-size us a 4 (mark_at us b 4)))
 
     lab-a : lab a ≡ mark_at us b lab_column
-    unfolding swapped_marks
+    unfolding exchanged_marks
     lab-a = ⊎_elim (λ e. ap lab e ∙ lab-b ∙ ap (λ j. mark_at us j lab_column) e) (λ ne. put_record (put_mark us a 4 (mark_at us b 4)) b 4 (mark_at us a 4) a ne ∙ put-here us a 4 (mark_at us b 4) (omega arith)) (eq-or-ne a b)
 
     lab-other : (j : ℕ) → j ≢ a → j ≢ b → lab j ≡ mark_at us j lab_column
-    unfolding swapped_marks
+    unfolding exchanged_marks
     lab-other j na nb = put_record (put_mark us a 4 (mark_at us b 4)) b 4 (mark_at us a 4) j nb ∙ put_record us a 4 (mark_at us b 4) j na
 
     swapped-labels : (n : ℕ) → a < n → b < n → Labels us n → Labels (swapped_marks us a b) n

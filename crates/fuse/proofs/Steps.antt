@@ -3,7 +3,7 @@
 use mathlib.Core.Path.{◌≡◌, refl, sym, ap, ap₂, ◌∙◌}
 use mathlib.Core.Logic.{◌≢◌}
 use mathlib.Core.Bool.{Bool, true, false, cond, ◌&&◌}
-use mathlib.Core.List.{List, [], ◌∷◌, ◌++◌, map}
+use mathlib.Core.List.{List, ◌∷◌, ◌++◌, map}
 use Prim.Native.Nat.{ℕ, ◌+◌, ◌*◌, ◌-◌, ◌<◌}
 use native.Mathlib.Omega.{arith}
 use lib.Dec.{eqb}
@@ -23,8 +23,9 @@ use Rattle.work.specs.Marks.{mark_at, put_mark}
 use Rattle.work.specs.Columns.{kind_column, a_column, b_column, gone_kind, one_kind, two_kind}
 use Rattle.work.proofs.Records.{only_same, only-trans}
 use Rattle.fuse.specs.Events.{Event, gone, one, two, three, meets, touches, product, clear}
-use Rattle.fuse.specs.Fuse.{grown, joined, place, fuse_step, fused}
-use Rattle.fuse.specs.Compress.{diagonal2_of, press, compress_step, compressed}
+use Rattle.fuse.specs.Fuse.{grown, joined, place, fuse_step}
+use Rattle.fuse.specs.Compress.{diagonal2_of, press, compress_step}
+use Rattle.fuse.specs.Passes.{PassLaws}
 use Rattle.fuse.specs.Layout.{event_at, matrix2_of, matrix4_of, put_matrix2_of, put_matrix4_of, meets_at, touches_at, kinds, Cleared, Joined, Stepped, Passed}
 use Rattle.fuse.proofs.Places.{one-at, two_at, meets-is, touches-is, kill-same, kind-other, kind-only, put4-other, put4-same, put2-other, put2-same}
 
@@ -249,43 +250,13 @@ module _ (xs : List Float) (us : List ℕ) (i : ℕ) (is : mark_at us i kind_col
 
 -- ---- a pass over all gates
 
-module _ (f : Event → List Event → List Event) (F : List Event → List Event) (none : F [] ≡ []) (more : (x : Event) (es : List Event) → F (x ∷ es) ≡ f x (F es)) where
-  passed_none : (xs : List Float) (us : List ℕ) → Passed F xs xs us us 0
-  passed_none xs us = record { size = refl; only = only_same kinds us; pass = pass-none f F none (event_at xs us) }
+module _ (f : Event → List Event → List Event) (F : List Event → List Event) (laws : PassLaws f F) where
+  pub passed_none : (xs : List Float) (us : List ℕ) → Passed F xs xs us us 0
+  passed_none xs us = record { size = refl; only = only_same kinds us; pass = pass-none f F laws.none (event_at xs us) }
 
-  passed-more : (xs ys zs : List Float) (us vs ws : List ℕ) (i : ℕ) → Passed F xs ys us vs i → Stepped f ys zs vs ws i → Passed F xs zs us ws (i + 1)
+  pub passed-more : (xs ys zs : List Float) (us vs ws : List ℕ) (i : ℕ) → Passed F xs ys us vs i → Stepped f ys zs vs ws i → Passed F xs zs us ws (i + 1)
   passed-more xs ys zs us vs ws i p s = record {
     size = s.size ∙ p.size;
     only = only-trans kinds us vs ws p.only s.only;
-    pass = pass-more f F more (event_at xs us) (event_at ys vs) (event_at zs ws) i p.pass s.step;
+    pass = pass-more f F laws.more (event_at xs us) (event_at ys vs) (event_at zs ws) i p.pass s.step;
   }
-
-pub fused-none : fused [] ≡ []
-unfolding fused
-fused-none = refl
-
-pub fused-more : (x : Event) (es : List Event) → fused (x ∷ es) ≡ fuse_step x (fused es)
-unfolding fused
-fused-more x es = refl
-
-pub compressed-none : compressed [] ≡ []
-unfolding compressed
-compressed-none = refl
-
-pub compressed-more : (x : Event) (es : List Event) → compressed (x ∷ es) ≡ compress_step x (compressed es)
-unfolding compressed
-compressed-more x es = refl
-
-pub fuse-none : (xs : List Float) (us : List ℕ) → Passed fused xs xs us us 0
-fuse-none = passed_none fuse_step fused fused-none fused-more
-
-pub fuse-more : (xs ys zs : List Float) (us vs ws : List ℕ) (i : ℕ) → Passed fused xs ys us vs i → Stepped fuse_step ys zs vs ws i
-    → Passed fused xs zs us ws (i + 1)
-fuse-more = passed-more fuse_step fused fused-none fused-more
-
-pub compress-none : (xs : List Float) (us : List ℕ) → Passed compressed xs xs us us 0
-compress-none = passed_none compress_step compressed compressed-none compressed-more
-
-pub compress-more : (xs ys zs : List Float) (us vs ws : List ℕ) (i : ℕ) → Passed compressed xs ys us vs i → Stepped compress_step ys zs vs ws i
-    → Passed compressed xs zs us ws (i + 1)
-compress-more = passed-more compress_step compressed compressed-none compressed-more

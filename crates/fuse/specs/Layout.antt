@@ -1,12 +1,12 @@
 -- Where the events stand in the lent work. Gate i has record i: the floats, of which the first are its matrix, and the marks, its kind and its slots.
 -- What the code promises is said of the event that a record holds, `event_at`. Assumes nothing. Only inner functions rest on this.
-use Rattle.std.specs.Prelude.{◌≡◌, Bool, false, cond, ◌||◌, List, ℕ, ◌+◌, ◌-◌, ◌<◌, ◌≤◌, eqb, length, Float}
+use Rattle.std.specs.Prelude.{◌≡◌, Bool, false, cond, ◌||◌, List, Option, Some, None, ℕ, ◌+◌, ◌-◌, ◌<◌, ◌≤◌, eqb, length, Float}
 use Rattle.laws.specs.Views.{between, seek, Step, Pass}
 use Rattle.gate.specs.Lent.{mat2_at, mat4_at, store2_of, store4_of}
 use Rattle.gate.specs.declared.matrix.Mat2.{Mat2}
 use Rattle.gate.specs.declared.matrix.Mat4.{Mat4}
 use Rattle.work.specs.Rows.{record_at, Floats}
-use Rattle.work.specs.Marks.{mark_at, Records, Only}
+use Rattle.work.specs.Marks.{mark_at, put_mark, Records, Only}
 use Rattle.work.specs.Columns.{kind_column, a_column, b_column, c_column, one_kind, two_kind, three_kind}
 use Rattle.fuse.specs.Events.{Event, gone, one, two, three, clear}
 use Rattle.fuse.specs.Fuse.{grown}
@@ -27,6 +27,10 @@ pub record Within (us : List ℕ) (i g n : ℕ) : Type 0 where
   pub a : (j : ℕ) → i ≤ j → j < g → mark_at us j a_column < n
   pub b : (j : ℕ) → i ≤ j → j < g → mark_at us j b_column < n
   pub c : (j : ℕ) → i ≤ j → j < g → mark_at us j c_column < n
+
+-- the marks of two records in a column, exchanged
+unfoldable pub exchanged_marks : List ℕ → ℕ → ℕ → ℕ → List ℕ
+exchanged_marks us a b c = put_mark (put_mark us a c (mark_at us b c)) b c (mark_at us a c)
 
 -- ---- the matrix of a record
 
@@ -70,10 +74,15 @@ meets_at us a b i = block_at us a i || block_at us b i
 abbrev pub touches_at : List ℕ → ℕ → ℕ → Bool
 touches_at us w i = one_at us w i || block_at us w i
 
--- a search back from i: one more than the index that it found, or 0
-pub record Found (q : ℕ → Bool) (i r : ℕ) : Type 0 where
-  pub is : r ≡ seek q i
-  pub within : r ≤ i
+-- what a search back found, as `seek` counts it: one more than the index, or 0
+abbrev pub sought : Option ℕ → ℕ
+sought None = 0
+sought (Some j) = j + 1
+
+-- a search back from i: the last index below i that passes, if there is one
+pub record Found (q : ℕ → Bool) (i : ℕ) (r : Option ℕ) : Type 0 where
+  pub is : sought r ≡ seek q i
+  pub within : sought r ≤ i
 
 -- ---- what the passes promise
 

@@ -4,5 +4,6 @@ pub mod Events
 pub mod Relabel
 pub mod Fuse
 pub mod Compress
+pub mod Passes
 pub mod Layout
 pub mod Slotted

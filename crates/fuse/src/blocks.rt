@@ -3,13 +3,14 @@ ghost use Rattle.std.specs.Prelude.{◌≡◌, ◌+◌, ◌<◌};
 ghost use Rattle.work.specs.Marks.{mark_at};
 ghost use Rattle.work.specs.Columns.{kind_column, two_kind};
 ghost use Rattle.fuse.specs.Fuse.{fuse_step, fused};
-ghost use Rattle.fuse.specs.Layout.{Room, Joined, Stepped, Passed};
+ghost use Rattle.fuse.specs.Passes.{fuse_laws};
+ghost use Rattle.fuse.specs.Layout.{Room, Joined, Stepped};
 
 use crate::back::{clear_on, newest, product_on};
-use crate::records::{matrix4, put_matrix4};
-use gate::{Mat4, kron, mat4_swap_qubits, mul4};
-use num::both;
-use work::{A, B, GONE, KIND, TWO, mark, put_mark};
+use crate::passes::Pass;
+use crate::records::{matrix, put_matrix};
+use gate::{Mat4, kron, mat4_swap_qubits};
+use work::{A, B, Kind, has_kind, mark, put_kind};
 
 // The block t on (c, d) takes the one-qubit gates on its slots up to i, and then gate i, whose
 // matrix in the block's orientation is m.
@@ -19,10 +20,10 @@ fn join(w: &mut [f64], u: &mut [u32], t: usize, i: usize, c: u32, d: u32, m: Mat
 {
     let x = product_on(w, u, t + 1, i, c);
     let y = product_on(w, u, t + 1, i, d);
-    let core = matrix4(w, t);
-    put_matrix4(w, t, mul4(m, mul4(kron(x, y), core)));
+    let core = matrix::<Mat4>(w, t);
+    put_matrix(w, t, m * (kron(x, y) * core));
     clear_on(u, t + 1, i, c, d);
-    put_mark(u, i, KIND, GONE);
+    put_kind(u, i, Kind::Gone);
 }
 
 // The two-qubit gate i: the open block on its slots takes it, or it starts a block.
@@ -32,44 +33,33 @@ fn grow(w: &mut [f64], u: &mut [u32], i: usize)
 {
     let a = mark(u, i, A);
     let b = mark(u, i, B);
-    let k = newest(u, i, a, b);
-    if k == 0 {
+    let Some(t) = newest(u, i, a, b) else {
         return;
-    }
-    let t = k - 1;
-    let kind = mark(u, t, KIND);
-    let c = mark(u, t, A);
-    let d = mark(u, t, B);
-    if kind == TWO {
-        if both(c == a, d == b) {
-            join(w, u, t, i, c, d, matrix4(w, i));
-            return;
+    };
+    if has_kind(u, t, Kind::Two) {
+        let c = mark(u, t, A);
+        let d = mark(u, t, B);
+        if (c, d) == (a, b) {
+            join(w, u, t, i, c, d, matrix(w, i));
+        } else if (c, d) == (b, a) {
+            join(w, u, t, i, c, d, mat4_swap_qubits(matrix(w, i)));
         }
-        if both(c == b, d == a) {
-            join(w, u, t, i, c, d, mat4_swap_qubits(matrix4(w, i)));
-            return;
-        }
-        return;
-    }
-}
-
-fn fuse_at(w: &mut [f64], u: &mut [u32], i: usize)
-    requires { Room w.old u.old (i + 1) }
-    ensures { Stepped fuse_step w.old w.new u.old u.new i }
-{
-    if mark(u, i, KIND) == TWO {
-        grow(w, u, i);
     }
 }
 
 // All two-qubit gates into blocks.
-pub fn fuse_all(w: &mut [f64], u: &mut [u32], g: usize)
-    requires { Room w.old u.old g }
-    ensures { Passed fused w.old w.new u.old u.new g }
-{
-    let mut i = 0;
-    while i < g {
-        fuse_at(w, u, i);
-        i += 1;
+pub struct Blocks;
+
+impl Pass for Blocks {
+    ghost step = { fuse_step };
+
+    ghost whole = { fused };
+
+    ghost laws = { fuse_laws };
+
+    fn take(w: &mut [f64], u: &mut [u32], i: usize) {
+        if has_kind(u, i, Kind::Two) {
+            grow(w, u, i);
+        }
     }
 }

@@ -6,11 +6,13 @@
 
 mod records; // matrices of a record, and tests on its marks
 mod relabel; // the gates of a tape as events on slots
+mod passes; // a pass over all events
 mod back; // looking back from a gate
 mod blocks; // two-qubit gates into blocks
 mod runs; // runs of diagonal one-qubit gates into one
 
-pub use blocks::fuse_all;
-pub use records::{block_on, matrix2, matrix4, one_on, put_matrix2, put_matrix4};
+pub use blocks::Blocks;
+pub use passes::{Pass, run_pass};
+pub use records::{block_on, exchange_marks, matrix, one_on, put_matrix};
 pub use relabel::relabel_all;
-pub use runs::compress_all;
+pub use runs::Runs;

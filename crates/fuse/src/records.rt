@@ -1,41 +1,27 @@
 // A gate's record in the lent work: its matrix among the floats, and tests on its marks.
-ghost use Rattle.std.specs.Prelude.{◌≡◌, ◌+◌};
-ghost use Rattle.work.specs.Rows.{FloatsAt};
-ghost use Rattle.work.specs.Marks.{Records};
-ghost use Rattle.fuse.specs.Layout.{matrix2_of, matrix4_of, put_matrix2_of, put_matrix4_of, one_at, block_at};
+ghost use Rattle.std.specs.Prelude.{◌≡◌, ◌+◌, ◌<◌, length};
+ghost use Rattle.work.specs.Rows.{record_at, FloatsAt};
+ghost use Rattle.work.specs.Marks.{mark_place, Records};
+ghost use Rattle.fuse.specs.Layout.{one_at, block_at, exchanged_marks};
 
-use gate::{Mat2, Mat4, load2, load4, store2, store4};
-use num::either;
-use work::{A, B, C, KIND, ONE, RECORD_FLOATS, THREE, TWO, mark};
+use gate::Matrix;
+use work::{A, B, C, Kind, RECORD_FLOATS, has_kind, mark, put_mark};
 
 // ---- matrices
 
-pub fn matrix2(w: &[f64], i: usize) -> Mat2
+// The matrix of record i.
+pub fn matrix<M: Matrix>(w: &[f64], i: usize) -> M
     requires { FloatsAt w.now i }
-    ensures { result ≡ matrix2_of w.now i }
+    ensures { result ≡ M.loaded w.now (record_at i) }
 {
-    load2(w, RECORD_FLOATS * i)
+    M::load(w, RECORD_FLOATS * i)
 }
 
-pub fn matrix4(w: &[f64], i: usize) -> Mat4
-    requires { FloatsAt w.now i }
-    ensures { result ≡ matrix4_of w.now i }
-{
-    load4(w, RECORD_FLOATS * i)
-}
-
-pub fn put_matrix2(w: &mut [f64], i: usize, m: Mat2)
+pub fn put_matrix<M: Matrix>(w: &mut [f64], i: usize, m: M)
     requires { FloatsAt w.old i }
-    ensures { w.new ≡ put_matrix2_of w.old i m }
+    ensures { w.new ≡ M.stored w.old (record_at i) m }
 {
-    store2(w, RECORD_FLOATS * i, m);
-}
-
-pub fn put_matrix4(w: &mut [f64], i: usize, m: Mat4)
-    requires { FloatsAt w.old i }
-    ensures { w.new ≡ put_matrix4_of w.old i m }
-{
-    store4(w, RECORD_FLOATS * i, m);
+    m.store(w, RECORD_FLOATS * i);
 }
 
 // ---- tests
@@ -45,10 +31,7 @@ pub fn one_on(u: &[u32], i: usize, s: u32) -> bool
     requires { Records u.now (i + 1) }
     ensures { result ≡ one_at u.now s i }
 {
-    if mark(u, i, KIND) == ONE {
-        return mark(u, i, A) == s;
-    }
-    false
+    has_kind(u, i, Kind::One) && mark(u, i, A) == s
 }
 
 // Whether gate i is a block on the slot s.
@@ -56,15 +39,24 @@ pub fn block_on(u: &[u32], i: usize, s: u32) -> bool
     requires { Records u.now (i + 1) }
     ensures { result ≡ block_at u.now s i }
 {
-    let kind = mark(u, i, KIND);
-    if kind == TWO {
-        return either(mark(u, i, A) == s, mark(u, i, B) == s);
+    if has_kind(u, i, Kind::Two) {
+        (mark(u, i, A) == s) | (mark(u, i, B) == s)
+    } else if has_kind(u, i, Kind::Three) {
+        (mark(u, i, A) == s) | (mark(u, i, B) == s) | (mark(u, i, C) == s)
+    } else {
+        false
     }
-    if kind == THREE {
-        return either(
-            mark(u, i, A) == s,
-            either(mark(u, i, B) == s, mark(u, i, C) == s),
-        );
-    }
-    false
+}
+
+// ---- an exchange
+
+// The marks of the records a and b in column c change places.
+pub fn exchange_marks(u: &mut [u32], a: usize, b: usize, c: usize)
+    requires { (mark_place a c < length u.old) × (mark_place b c < length u.old) }
+    ensures { u.new ≡ exchanged_marks u.old a b c }
+{
+    let x = mark(u, a, c);
+    let y = mark(u, b, c);
+    put_mark(u, a, c, y);
+    put_mark(u, b, c, x);
 }

@@ -1,6 +1,7 @@
 -- The search for the best cuts, cut by cut: what is left to try from a cut on; and that it turns on what the cuts take and on nothing else.
 -- Assumes nothing.
-use mathlib.Core.Path.{◌≡◌, refl, ap, ◌∙◌}
+use mathlib.Core.Path.{◌≡◌, refl, sym, ap, ◌∙◌}
+use Rattle.std.proofs.lemmas.Bool.{false≢true}
 use mathlib.Core.Bool.{Bool, true, false, cond}
 use mathlib.Core.List.{List, [], ◌∷◌, ◌++◌}
 use Prim.Native.Nat.{ℕ, zero, suc, ◌+◌, ◌-◌, ◌≤◌, ◌<◌}
@@ -14,7 +15,7 @@ use Rattle.gate.specs.Matrix.{kron_of, mul4_of}
 use Rattle.gate.specs.declared.matrix.Mat2.{Mat2}
 use Rattle.gate.specs.declared.matrix.Mat4.{Mat4}
 use Rattle.classify.specs.Classify.{classify2_of}
-use Rattle.resolve.specs.declared.choose.Search.{Search}
+use Rattle.resolve.specs.Choose.{Search}
 use Rattle.resolve.specs.Cuts.{in_window, keep, cuts}
 use Rattle.resolve.specs.Choose.{no_choice, offer_of, Offer, offers_of, all_offers, try_each, choose_of}
 
@@ -46,6 +47,11 @@ module _ (len : ℕ) where
 
     pub from-passed : t ≤ len → in_window len t ≡ false → cuts_from len t ≡ cuts_from len (t + 1)
     from-passed h w = next h ∙ rw w
+
+-- the first cut is always tried
+pub first_window : (len t : ℕ) → in_window len t ≡ false → 0 < t
+first_window len zero e = absurd (false≢true (sym e))
+first_window len (suc t) e = omega arith
 
 -- ---- the search from a cut on
 

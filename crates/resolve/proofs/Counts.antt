@@ -4,7 +4,7 @@ use mathlib.Core.Path.{◌≡◌, refl, sym, ap, ap₂, ◌∙◌}
 use mathlib.Core.Logic.{◌⊎◌, inl, inr}
 use mathlib.Core.Bool.{Bool, true, false, cond, ◌||◌}
 use mathlib.Core.List.{List, [], ◌∷◌, ◌++◌, reverse}
-use Prim.Native.Nat.{ℕ, zero, suc, ◌+◌, ◌*◌, ◌-◌, ◌≤◌, ◌<◌}
+use Prim.Native.Nat.{ℕ, zero, suc, ◌+◌, ◌*◌, ◌-◌, ◌≤◌, ◌<◌, min}
 use native.Mathlib.Nat.{add_comm, add_assoc, zero-add, add-zero, zero-mul, suc-mul, mul-le-mul}
 use native.Mathlib.Omega.{arith}
 use lib.Dec.{eqb, leb}
@@ -17,7 +17,7 @@ use Rattle.laws.proofs.Views.{up-join}
 use Rattle.fuse.specs.Events.{Event, gone, one, two, three}
 use Rattle.fuse.specs.Fuse.{fused}
 use Rattle.fuse.specs.Compress.{compressed}
-use Rattle.resolve.specs.declared.choose.Choice.{Choice}
+use Rattle.resolve.specs.Choose.{Choice}
 use Rattle.resolve.specs.Cuts.{cut_window, in_window, keep, cuts, ahead}
 use Rattle.resolve.specs.Choose.{offers_of, all_offers, offers}
 use Rattle.resolve.specs.Resolve.{Resolved, lengthened, promised, emptied, renamed, added, passed, item_of, settled}
@@ -93,6 +93,14 @@ cuts-long len h =
     ap (λ n. length (keep (in_window len) (numbers 0 n))) all
     ∙ keep-length (in_window len) 0 9 (m + 9)
     ∙ ap₂ ◌+◌ first (keep-length (in_window len) 9 m 9 ∙ ap₂ ◌+◌ middle last)
+
+-- so there are one more than the gates, up to 18
+pub cuts-many : (len m : ℕ) → m ≡ min len (2 * cut_window + 1) → (m + 1 ≡ length (cuts len)) × (m + 1 ≤ 18)
+cuts-many len m e = by (lt-or-le len (2 * cut_window + 1))
+  where
+    by : (len < 2 * cut_window + 1) ⊎ (2 * cut_window + 1 ≤ len) → (m + 1 ≡ length (cuts len)) × (m + 1 ≤ 18)
+    by (inl h) = (omega (arith, e, cuts-short len (omega arith)), omega (arith, e))
+    by (inr h) = (omega (arith, e, cuts-long len h), omega (arith, e))
 
 -- no tail has more than 18
 pub cuts-few : (len : ℕ) → length (cuts len) ≤ 2 * cut_window + 2

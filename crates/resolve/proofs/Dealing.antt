@@ -20,7 +20,7 @@ use Rattle.work.proofs.Records.{put-here}
 use Rattle.fuse.specs.Events.{Event, gone, one, two, three}
 use Rattle.fuse.specs.Layout.{matrix2_of, matrix4_of, event_at, Space, Within}
 use Rattle.fuse.proofs.Places.{one-at, two_at, three-at, gone_at}
-use Rattle.resolve.specs.declared.choose.Search.{Search}
+use Rattle.resolve.specs.Choose.{Search}
 use Rattle.resolve.specs.declared.settle.Tally.{Tally}
 use Rattle.resolve.specs.Cuts.{ahead, cuts, prefix_of}
 use Rattle.resolve.specs.Choose.{offers, choose_of}

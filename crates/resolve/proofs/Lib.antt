@@ -10,3 +10,4 @@ pub mod Ends
 pub mod Wholes
 pub mod Wires
 pub mod Examples
+mod Scores

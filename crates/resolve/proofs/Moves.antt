@@ -18,7 +18,7 @@ use Rattle.work.specs.Marks.{mark_at, put_mark}
 use Rattle.work.specs.Columns.{kind_column, a_column, c_column, lab_column, content_column, one_kind, one_item, opaque_item}
 use Rattle.fuse.specs.Layout.{matrix2_of, put_matrix2_of, event_at, Space, Within}
 use Rattle.classify.specs.Classify.{residual_of}
-use Rattle.resolve.specs.declared.choose.Choice.{Choice}
+use Rattle.resolve.specs.Choose.{Choice}
 use Rattle.resolve.specs.declared.settle.Tally.{Tally}
 use Rattle.resolve.specs.Items as Items
 use Rattle.resolve.specs.Items.{kind_of}

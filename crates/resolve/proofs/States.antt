@@ -9,6 +9,7 @@ use native.Mathlib.Omega.{arith}
 use lib.ListN.{length, get_or, set}
 use lib.Seq.{get_or-set_same, get_or-set_other}
 use lib.Ieee.{Float, nan}
+use Rattle.fuse.specs.Layout.{exchanged_marks}
 use Rattle.laws.specs.Views.{list_of}
 use Rattle.laws.proofs.Cases.{eq-or-ne}
 use Rattle.laws.proofs.Views.{get_or-list_of}
@@ -153,12 +154,12 @@ module _ (xs : List Float) (us : List ℕ) (g n s i : ℕ) (t : Tally) (l : s < 
 
 module _ (us : List ℕ) (a b : ℕ) where
   pub traded-size : length (traded_marks us a b) ≡ length us
-  unfolding traded_marks
+  unfolding exchanged_marks
   traded-size = put-size (put_mark us a 5 (mark_at us b 5)) b 5 (mark_at us a 5) ∙ put-size us a 5 (mark_at us b 5)
 
   -- another column
   traded-column : (j d : ℕ) → d < record_marks → d ≢ content_column → mark_at (traded_marks us a b) j d ≡ mark_at us j d
-  unfolding traded_marks
+  unfolding exchanged_marks
   traded-column j d h ne =
       put-column (put_mark us a 5 (mark_at us b 5)) b 5 (mark_at us a 5) j d (omega arith) h (λ e. ne (sym e))
       ∙ put-column us a 5 (mark_at us b 5) j d (omega arith) h (λ e. ne (sym e))
@@ -183,15 +184,15 @@ module _ (us : List ℕ) (a b : ℕ) where
     wire j = mark_at (traded_marks us a b) j content_column
 
     wire-b : wire b ≡ mark_at us a content_column
-    unfolding traded_marks
+    unfolding exchanged_marks
     wire-b = put-here (put_mark us a 5 (mark_at us b 5)) b 5 (mark_at us a 5) (omega (arith, put-size us a 5 (mark_at us b 5)))
 
     wire-a : wire a ≡ mark_at us b content_column
-    unfolding traded_marks
+    unfolding exchanged_marks
     wire-a = ⊎_elim (λ e. ap wire e ∙ wire-b ∙ ap (λ j. mark_at us j content_column) e) (λ ne. put_record (put_mark us a 5 (mark_at us b 5)) b 5 (mark_at us a 5) a ne ∙ put-here us a 5 (mark_at us b 5) (omega arith)) (eq-or-ne a b)
 
     wire-other : (j : ℕ) → j ≢ a → j ≢ b → wire j ≡ mark_at us j content_column
-    unfolding traded_marks
+    unfolding exchanged_marks
     wire-other j na nb = put_record (put_mark us a 5 (mark_at us b 5)) b 5 (mark_at us a 5) j nb ∙ put_record us a 5 (mark_at us b 5) j na
 
     pub renamed-state : (xs : List Float) (g n i : ℕ) (t : Tally) → a < n → b < n → resolved_at xs (traded_marks us a b) g n i t ≡ renamed a b (resolved_at xs us g n i t)

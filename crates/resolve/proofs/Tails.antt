@@ -1,16 +1,17 @@
 -- The closing tail of a block, gate by gate: what the loop over the events has gathered so far, with what each cut takes. Assumes nothing.
 use mathlib.Core.Path.{◌≡◌, refl, sym, ap, ap₂, subst, ◌∙◌}
 use mathlib.Core.Logic.{◌⊎◌, inl, inr, ⊎_elim}
-use mathlib.Core.Bool.{Bool, true, false, cond, true≢false}
+use mathlib.Core.Bool.{Bool, true, false, cond, ◌||◌, true≢false}
 use mathlib.Core.List.{List, [], ◌∷◌, ◌++◌, append_assoc, append-nil}
 use Prim.Native.Nat.{ℕ, zero, suc, ◌+◌, ◌-◌, ◌≤◌, ◌<◌}
 use native.Mathlib.Omega.{arith}
-use native.Mathlib.Nat.{le_of_suc-le-suc, eq-or-lt_of_le, add-zero}
 use native.Mathlib.Numerals.{add-one}
+use native.Mathlib.Nat.{le_of_suc-le-suc, eq-or-lt_of_le, add-zero}
 use lib.Dec.{eqb}
 use lib.ListN.{length, get_or, take, length-append}
 use lib.Seq.{take_all, take-append-le}
 use lib.Ieee.{Float, nan}
+use Rattle.std.proofs.lemmas.Bool.{false≢true}
 use Rattle.laws.specs.Views.{until, up_from}
 use Rattle.laws.proofs.Cases.{lt-or-le}
 use Rattle.laws.proofs.Views.{up-head, up_same}
@@ -93,16 +94,24 @@ tail-over xs us s j g r p =
     tail-past xs us s j g (r - j) (omega (arith, p.low, p.high)) (λ i a b. p.none i a (omega (arith, p.low)))
     ∙ ap (λ k. ahead s (todo xs us k g)) e
 
+-- gate i is passed over, or it is found
+neither : (x y : Bool) → (x || y) ≡ false → (x ≡ false) × (y ≡ false)
+neither false false e = (refl, refl)
+neither false true e = absurd (false≢true (sym e))
+neither true y e = absurd (false≢true (sym e))
+
 module _ (us : List ℕ) (s j g : ℕ) where
   pub pass-none : j ≤ g → PassedOver us s j g j
   pass-none h = record { low = omega arith; high = h; none = λ i a b. absurd (omega arith) }
 
-  pub pass-more : (i : ℕ) → PassedOver us s j g i → i < g → block_at us s i ≡ false → one_at us s i ≡ false → PassedOver us s j g (i + 1)
-  pass-more i p h b o = record {
-    low = omega (arith, p.low);
-    high = omega arith;
-    none = λ q a c. ⊎_elim (λ (e : q ≡ i). (ap (block_at us s) e ∙ b, ap (one_at us s) e ∙ o)) (λ l. p.none q a l) (eq-or-lt_of_le (le_of_suc-le-suc (rw (← add-one i) c)));
-  }
+  pub pass-more : (i : ℕ) → PassedOver us s j g i → i < g → (block_at us s i || one_at us s i) ≡ false → PassedOver us s j g (i + 1)
+  pass-more i p h e =
+      let both = neither _ _ e in
+      record {
+        low = omega (arith, p.low);
+        high = omega arith;
+        none = λ q a c. ⊎_elim (λ (e : q ≡ i). (ap (block_at us s) e ∙ both.0, ap (one_at us s) e ∙ both.1)) (λ l. p.none q a l) (eq-or-lt_of_le (le_of_suc-le-suc (rw (← add-one i) c)));
+      }
 
 -- ---- a row of the records
 
@@ -195,19 +204,6 @@ module _ (xs ys : List Float) (us : List ℕ) (k g s row len j : ℕ) (acc : Mat
 
   pub gather-block : j < g → block_at us s j ≡ true → Prefixes xs ys us k g s row len
   gather-block h b = done (tail-block xs us s j g h b)
-
-  pub gather-skip : j < g → block_at us s j ≡ false → one_at us s j ≡ false → Gathering xs ys us k g s row len (j + 1) acc
-  gather-skip h b o = record {
-    gs = i.gs;
-    count = i.count;
-    start = omega (arith, i.start);
-    end = omega arith;
-    few = omega (arith, i.few);
-    only = i.only;
-    tail = ap (λ l. i.gs ++ l) (sym (tail-skip xs us s j g h b o)) ∙ i.tail;
-    now = i.now;
-    each = i.each;
-  }
 
   -- the gates from j on and before r are passed over
   pub gather-over : (r : ℕ) → PassedOver us s j g r → Gathering xs ys us k g s row len r acc

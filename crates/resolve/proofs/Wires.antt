@@ -15,7 +15,7 @@ use Rattle.laws.specs.Views.{list_of}
 use Rattle.laws.proofs.Tables.{length-traded, get_or-traded, exchanged-below, exchanged-twice}
 use Rattle.laws.proofs.Views.{length-list_of, get_or-list_of}
 use Rattle.fuse.specs.Events.{Event, gone, one, two, three}
-use Rattle.resolve.specs.declared.choose.Choice.{Choice}
+use Rattle.resolve.specs.Choose.{Choice}
 use Rattle.resolve.specs.Items.{ItemsBelow}
 use Rattle.resolve.specs.Resolve.{Rest, none, rest, Resolved, lengthened, promised, emptied, renamed, added, passed, item_of, settled, closed, candidates, chosen, resolved, rest_item, with_rests, start_of}
 

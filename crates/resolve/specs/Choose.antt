@@ -10,8 +10,6 @@ use Rattle.classify.specs.Classify.{classify2_of, class2, rank_of, residual_of}
 use Rattle.classify.specs.declared.classify.Class2.{Class2}
 use Rattle.classify.specs.declared.classify.Kind2.{Kind2}
 use Rattle.classify.specs.declared.classify.Kind2.TheVariants.{NonGaussian}
-use Rattle.resolve.specs.declared.choose.Choice.{Choice}
-use Rattle.resolve.specs.declared.choose.Search.{Search}
 use Rattle.resolve.specs.Cuts.{cuts}
 
 -- ---- scores
@@ -20,7 +18,15 @@ use Rattle.resolve.specs.Cuts.{cuts}
 unfoldable pub level_of : Kind2 → Float
 level_of k = cond (eqb (rank_of k) 2) (residual_of k) f0
 
--- a candidate: cut ka of the first tail, cut kb of the second, and the class that the block then has
+-- a candidate: its score, cut ka of the first tail, cut kb of the second, and the class that the block then has
+pub record Choice : Type 0 where
+  pub rank : ℕ
+  pub level : Float
+  pub taken : ℕ
+  pub ka : ℕ
+  pub kb : ℕ
+  pub class : Class2
+
 unfoldable pub candidate_of : ℕ → ℕ → Class2 → Choice
 candidate_of ka kb c = record { rank = rank_of c.kind; level = level_of c.kind; taken = ka + kb; ka = ka; kb = kb; class = c }
 
@@ -33,6 +39,11 @@ abbrev pub improves : Choice → Choice → Bool
 improves x y = better_of x.rank x.level x.taken y.rank y.level y.taken
 
 -- ---- the search
+
+-- the best candidate so far, and whether one so far was angled
+pub record Search : Type 0 where
+  pub best : Choice
+  pub angled : Bool
 
 -- before any candidate: every rank is below 3
 abbrev pub no_choice : Mat4 → Choice

@@ -2,6 +2,7 @@
 pub mod Items
 pub mod Cuts
 pub mod Choose
+pub mod Searched
 pub mod Resolve
 pub mod Slots
 pub mod Whole

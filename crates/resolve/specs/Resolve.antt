@@ -10,12 +10,10 @@ use Rattle.gate.specs.declared.matrix.Mat2.{Mat2}
 use Rattle.gate.specs.declared.matrix.Mat4.{Mat4}
 use Rattle.fuse.specs.Events.{Event, gone, one, two, three}
 use Rattle.classify.specs.Classify.{residual_of}
-use Rattle.resolve.specs.declared.choose.Choice.{Choice}
-use Rattle.resolve.specs.declared.choose.Search.{Search}
 use Rattle.resolve.specs.Items as Items
 use Rattle.resolve.specs.Items.{Item, kind_of}
 use Rattle.resolve.specs.Cuts.{ahead, prefix_of}
-use Rattle.resolve.specs.Choose.{offers, choose_of}
+use Rattle.resolve.specs.Choose.{Choice, Search, offers, choose_of}
 
 -- ---- remainders
 

@@ -1,7 +1,7 @@
 -- Where the slots and the items stand in the lent work, with g gates: slot s has the record g + s, which holds its remainder and its split; the wire in it
 -- is a mark of record s. An item stands in the record of its block or, if it is a remainder, of its slot. Assumes nothing.
 -- Only inner functions rest on this.
-use Rattle.std.specs.Prelude.{◌≡◌, ◌⊎◌, Bool, false, cond, ◌&&◌, List, [], ◌∷◌, ℕ, ◌+◌, ◌-◌, ◌<◌, ◌≤◌, eqb, leb, length, get_or, set, Float}
+use Rattle.std.specs.Prelude.{◌≡◌, ◌⊎◌, Bool, true, false, cond, ◌&&◌, ◌||◌, Option, Some, None, List, [], ◌∷◌, ℕ, ◌+◌, ◌-◌, ◌<◌, ◌≤◌, eqb, leb, length, get_or, set, Float}
 use Rattle.std.specs.Float.{nan}
 use Rattle.laws.specs.Views.{list_of, up_from}
 use Rattle.gate.specs.Lent.{mat2_at}
@@ -12,14 +12,14 @@ use Rattle.work.specs.Marks.{mark_at, put_mark}
 use Rattle.work.specs.Columns.{kind_column, a_column, b_column, c_column, lab_column, content_column}
 use Rattle.work.specs.Columns.{gone_kind, one_item, match_item, diagonal_item, interaction_item, neither_item, opaque_item}
 use Rattle.fuse.specs.Events.{Event}
-use Rattle.fuse.specs.Layout.{Within, matrix2_of, matrix4_of, put_matrix4_of, event_at, one_at, block_at}
+use Rattle.fuse.specs.Layout.{exchanged_marks, Within, matrix2_of, matrix4_of, put_matrix4_of, event_at, one_at, block_at}
 use Rattle.classify.specs.Classify.{residual_of}
 use Rattle.classify.specs.declared.classify.Class2.{Class2}
-use Rattle.resolve.specs.declared.choose.Search.{Search}
 use Rattle.resolve.specs.declared.settle.Tally.{Tally}
 use Rattle.resolve.specs.Items as Items
 use Rattle.resolve.specs.Items.{Item, ItemKind, matchgate, phaseless, interacting, neither, newest_first}
 use Rattle.resolve.specs.Cuts.{ahead, prefix_of}
+use Rattle.resolve.specs.Choose.{Choice}
 use Rattle.resolve.specs.Resolve.{Rest, none, rest, Resolved, passed, settled, closed, resolve_step, resolved, with_rests, start_of}
 
 -- ---- what the records hold
@@ -84,8 +84,8 @@ unfoldable pub emptied_marks : List ℕ → ℕ → ℕ → ℕ → List ℕ
 emptied_marks us g s k = put_mark (put_mark us (g + s) kind_column gone_kind) (g + s) c_column k
 
 -- the wires in a and b change places
-unfoldable pub traded_marks : List ℕ → ℕ → ℕ → List ℕ
-traded_marks us a b = put_mark (put_mark us a content_column (mark_at us b content_column)) b content_column (mark_at us a content_column)
+abbrev pub traded_marks : List ℕ → ℕ → ℕ → List ℕ
+traded_marks us a b = exchanged_marks us a b content_column
 
 -- an item's marks and, of a two-qubit item, its floats
 unfoldable pub item_marks : List ℕ → ℕ → ℕ → ℕ → ℕ → List ℕ
@@ -114,6 +114,11 @@ pub record PassedOver (us : List ℕ) (s j g r : ℕ) : Type 0 where
   pub high : r ≤ g
   pub none : (i : ℕ) → j ≤ i → i < r → (block_at us s i ≡ false) × (one_at us s i ≡ false)
 
+-- a search on from gate j: the first gate below g that is on s, if there is one
+abbrev pub NextOn : List ℕ → ℕ → ℕ → ℕ → Option ℕ → Type 0
+NextOn us s j g None = PassedOver us s j g g
+NextOn us s j g (Some i) = PassedOver us s j g i × (i < g) × ((block_at us s i || one_at us s i) ≡ true)
+
 -- the tail on s from gate k on, of r gates: what each cut takes stands in the rows
 pub record Prefixes (xs ys : List Float) (us : List ℕ) (k g s row r : ℕ) : Type 0 where
   pub only : RowOnly row xs ys
@@ -132,16 +137,16 @@ pub record Moved (f : Resolved → Resolved) (xs ys : List Float) (us vs : List 
   pub lab : (q : ℕ) → mark_at vs q lab_column ≡ mark_at us q lab_column
   pub within : Within vs (i + 1) g n
 
--- it was a one-qubit gate, an opaque block, a two-qubit block with the result s of the search
+-- it was a one-qubit gate, an opaque block, a two-qubit block with the choice x that was made for it
 abbrev pub OnePassed : List Float → List Float → List ℕ → List ℕ → ℕ → ℕ → ℕ → Type 0
 OnePassed xs ys us vs g n i = (t : Tally) → Moved (passed (mark_at us i a_column) (matrix2_of xs i)) xs ys us vs g n i t t
 
 abbrev pub ThreeClosed : List Float → List ℕ → List ℕ → ℕ → ℕ → ℕ → Type 0
 ThreeClosed xs us vs g n i = (t : Tally) → Moved (closed (mark_at us i a_column) (mark_at us i b_column) (mark_at us i c_column)) xs xs us vs g n i t t
 
-abbrev pub TwoSettled : ℕ → Search → List Float → List Float → List ℕ → List ℕ → ℕ → ℕ → ℕ → Tally → Tally → Type 0
-TwoSettled tried s xs ys us vs g n i t t' =
-    Moved (settled (mark_at us i a_column) (mark_at us i b_column) tried s.best s.angled) xs ys us vs g n i t t'
+abbrev pub TwoSettled : ℕ → Choice → Bool → List Float → List Float → List ℕ → List ℕ → ℕ → ℕ → ℕ → Tally → Tally → Type 0
+TwoSettled tried x angled xs ys us vs g n i t t' =
+    Moved (settled (mark_at us i a_column) (mark_at us i b_column) tried x angled) xs ys us vs g n i t t'
 
 -- no block has more candidates: 18 cuts of each tail
 abbrev pub max_candidates : ℕ

@@ -5,11 +5,10 @@ ghost use Rattle.work.specs.Rows.{row_floats, matrix_floats};
 ghost use Rattle.work.specs.Marks.{Records};
 ghost use Rattle.fuse.specs.Layout.{Room};
 ghost use Rattle.resolve.specs.Cuts.{cuts, in_window};
-ghost use Rattle.resolve.specs.Slots.{PassedOver, Prefixes};
+ghost use Rattle.resolve.specs.Slots.{NextOn, Prefixes};
 
-use fuse::{block_on, matrix2, one_on};
-use gate::{identity2, store2, time_step};
-use num::either;
+use fuse::{block_on, matrix, one_on};
+use gate::{Mat2, Matrix, time_step};
 use work::RECORD_FLOATS;
 
 // Longest prefix and suffix of a tail whose cut points are all tried.
@@ -20,36 +19,27 @@ pub fn in_window(len: usize, t: usize) -> bool
     requires { t < 65536 }
     ensures { result ≡ in_window len t }
 {
-    either(t <= CUT_WINDOW, len <= t + CUT_WINDOW)
+    (t <= CUT_WINDOW) | (len <= t + CUT_WINDOW)
 }
 
 // How many cuts a tail of len gates has.
 pub fn cut_count(len: usize) -> usize
     ensures { (result ≡ length (cuts len)) × (result ≤ 18) }
 {
-    if len <= 2 * CUT_WINDOW {
-        return len + 1;
-    }
-    2 * CUT_WINDOW + 2
+    len.min(2 * CUT_WINDOW + 1) + 1
 }
 
-// The first gate from j on, below g, that is on slot s; g if there is none. Apart from the tail, so that
-// no matrix is held while the gates of other slots are passed over.
-fn next_on(u: &[u32], j: usize, g: usize, s: u32) -> usize
+// The first gate from j on, below g, that is on slot s. Apart from the tail, so that no matrix is held while the gates of other slots are passed over.
+fn next_on(u: &[u32], j: usize, g: usize, s: u32) -> Option<usize>
     requires { Records u.now g × (j ≤ g) }
-    ensures { PassedOver u.now s j g result }
+    ensures { NextOn u.now s j g result }
 {
-    let mut i = j;
-    while i < g {
-        if block_on(u, i, s) {
-            return i;
+    for i in j..g {
+        if block_on(u, i, s) | one_on(u, i, s) {
+            return Some(i);
         }
-        if one_on(u, i, s) {
-            return i;
-        }
-        i += 1;
     }
-    i
+    None
 }
 
 // The tail on slot s after gate k - 1: what each of its cuts takes, cut t in a row of record t. The
@@ -58,20 +48,18 @@ pub fn prefixes(w: &mut [f64], u: &[u32], k: usize, g: usize, s: u32, row: usize
     requires { Room w.old u.now g × (0 < k) × (k ≤ g) × (matrix_floats ≤ row) × (row + row_floats ≤ record_floats) }
     ensures { Prefixes w.old w.new u.now k g s row result }
 {
-    let mut acc = identity2();
-    store2(w, row, acc);
+    let mut acc = Mat2::IDENTITY;
+    acc.store(w, row);
     let mut len = 0;
-    let mut j = next_on(u, k, g, s);
-    while j < g {
+    let mut from = k;
+    while let Some(j) = next_on(u, from, g, s) {
         if block_on(u, j, s) {
             return len;
         }
-        if one_on(u, j, s) {
-            acc = time_step(acc, matrix2(w, j));
-            len += 1;
-            store2(w, RECORD_FLOATS * len + row, acc);
-        }
-        j = next_on(u, j + 1, g, s);
+        acc = time_step(acc, matrix(w, j));
+        len += 1;
+        acc.store(w, RECORD_FLOATS * len + row);
+        from = j + 1;
     }
     len
 }

@@ -11,5 +11,6 @@ mod events; // all events in time order
 mod slots; // the slots before the first event and after the last
 mod whole; // all of it
 
+pub use choose::Rules;
 pub use settle::Tally;
 pub use whole::fuse_events;

@@ -8,6 +8,3 @@ use Rattle.fuse.proofs.back.newest.Given as goal
 
 abbrev pub invariant-loop-j : goal.invariant-loop-j
 invariant-loop-j l = (l.j ≤ l.i) × (seek (meets_at l.u l.a l.b) l.i ≡ seek (meets_at l.u l.a l.b) l.j)
-
-abbrev pub decreases-loop-j : goal.decreases-loop-j
-decreases-loop-j l = l.j

@@ -8,6 +8,3 @@ use Rattle.fuse.proofs.back.previous.Given as goal
 
 abbrev pub invariant-loop-j : goal.invariant-loop-j
 invariant-loop-j l = (l.j ≤ l.i) × (seek (touches_at l.u l.s) l.i ≡ seek (touches_at l.u l.s) l.j)
-
-abbrev pub decreases-loop-j : goal.decreases-loop-j
-decreases-loop-j l = l.j

@@ -9,6 +9,3 @@ use Rattle.fuse.proofs.back.product_on.Given as goal
 
 abbrev pub invariant-loop-j : goal.invariant-loop-j
 invariant-loop-j l = (l.k ≤ l.j) × (l.j ≤ l.i) × (l.acc ≡ product l.s (between (event_at l.w l.u) l.k (l.j - l.k)))
-
-abbrev pub decreases-loop-j : goal.decreases-loop-j
-decreases-loop-j l = l.i - l.j

@@ -1,17 +1,26 @@
 -- `fuse::records::block_on` meets its contract: the kind is tested, then the slots.
 -- Assumes nothing.
-use borrow.Author.Tests.{ne_eqb}
+use mathlib.Core.Path.{◌≡◌, refl, ◌∙◌}
+use lib.Dec.{eqb}
+use mathlib.Core.Bool.{Bool, true, false, ◌||◌}
 use Rattle.fuse.specs.Layout.{block_at}
 use Rattle.fuse.proofs.records.block_on.Goals as goal
 
-pub returns-then-kind-eq-TWO : goal.returns-then-kind-eq-TWO
-unfolding block_at
-returns-then-kind-eq-TWO c = rw (c.either.ensures, ← c.mark-then-kind-eq-TWO.ensures, ← c.mark.ensures, ← c.mark-kind.ensures, c.if-kind-eq-TWO.true)
+or-assoc : (x y z : Bool) → ((x || y) || z) ≡ (x || (y || z))
+or-assoc true y z = refl
+or-assoc false y z = refl
 
-pub returns-then-kind-eq-THREE : goal.returns-then-kind-eq-THREE
+pub returns-then-has_kind : goal.returns-then-has_kind
 unfolding block_at
-returns-then-kind-eq-THREE c = rw (c.either-then-kind-eq-THREE-2.ensures, c.either-then-kind-eq-THREE.ensures, ← c.mark-then-kind-eq-THREE-3.ensures, ← c.mark-then-kind-eq-THREE-2.ensures, ← c.mark-then-kind-eq-THREE.ensures, ← c.mark-kind.ensures, c.if-kind-eq-THREE.true)
+returns-then-has_kind c = rw (← c.has_kind.ensures, c.if-has_kind.true, ← c.mark.ensures, ← c.mark-then-has_kind.ensures)
 
-pub returns : goal.returns
+pub returns-then-has_kind-2 : goal.returns-then-has_kind-2
 unfolding block_at
-returns c = rw (← c.mark-kind.ensures, ne_eqb _ _ c.if-kind-eq-TWO.false, ne_eqb _ _ c.if-kind-eq-THREE.false)
+returns-then-has_kind-2 c =
+    let s = c.args.s in
+    or-assoc (eqb c.mark-then-has_kind-2.result s) (eqb c.mark-then-has_kind-2-2.result s) (eqb c.mark-then-has_kind-2-3.result s)
+    ∙ rw (← c.has_kind.ensures, c.if-has_kind.false, ← c.has_kind-else-has_kind.ensures, c.if-has_kind-2.true, ← c.mark-then-has_kind-2.ensures, ← c.mark-then-has_kind-2-2.ensures, ← c.mark-then-has_kind-2-3.ensures)
+
+pub returns-else-has_kind-2 : goal.returns-else-has_kind-2
+unfolding block_at
+returns-else-has_kind-2 c = rw (← c.has_kind.ensures, c.if-has_kind.false, ← c.has_kind-else-has_kind.ensures, c.if-has_kind-2.false)

@@ -4,39 +4,24 @@ use Rattle.fuse.proofs.relabel.label_gate.Goals as goal
 
 pub label_one-requires : goal.label_one-requires
 label_one-requires c =
-    let good = rw c.in-One.is at c.requires.4 in
-    (c.requires.0, c.requires.1, c.requires.2, c.requires.3, good.below)
-
-pub shape_of-w-in-One : goal.shape_of-w-in-One
-shape_of-w-in-One c = (c.label_one.ensures c.args.relabel 0).size
-
-pub shape_of-u-in-One : goal.shape_of-u-in-One
-shape_of-u-in-One c = (c.label_one.ensures c.args.relabel 0).marks
+    let good = rw c.in-One.is at c.requires.1 in
+    (c.requires.0, good.below)
 
 pub returns-in-One : goal.returns-in-One
 returns-in-One c = rw c.in-One.is (c.label_one.ensures c.args.relabel _)
 
 pub label_two-requires : goal.label_two-requires
 label_two-requires c =
-    let good = rw c.in-Two.is at c.requires.4 in
-    (c.requires.0, c.requires.1, c.requires.2, c.requires.3, good.below-a, good.below-b)
-
-pub shape_of-w-in-Two : goal.shape_of-w-in-Two
-shape_of-w-in-Two c = c.label_two.ensures.size
-
-pub shape_of-u-in-Two : goal.shape_of-u-in-Two
-shape_of-u-in-Two c = c.label_two.ensures.marks
+    let good = rw c.in-Two.is at c.requires.1 in
+    (c.requires.0, good.below-a, good.below-b)
 
 pub returns-in-Two : goal.returns-in-Two
 returns-in-Two c = rw c.in-Two.is c.label_two.ensures
 
 pub label_three-requires : goal.label_three-requires
 label_three-requires c =
-    let good = rw c.in-Three.is at c.requires.4 in
-    (c.requires.0, c.requires.1, c.requires.2, c.requires.3, good.below-a, good.below-b, good.below-c)
-
-pub shape_of-u-in-Three : goal.shape_of-u-in-Three
-shape_of-u-in-Three c = (c.label_three.ensures c.args.relabel).marks
+    let good = rw c.in-Three.is at c.requires.1 in
+    (c.requires.0, good.below-a, good.below-b, good.below-c)
 
 pub returns-in-Three : goal.returns-in-Three
 returns-in-Three c = rw c.in-Three.is (c.label_three.ensures c.args.relabel)

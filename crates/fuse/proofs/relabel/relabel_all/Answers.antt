@@ -4,14 +4,12 @@ use mathlib.Core.Path.{refl, sym, subst, ◌∙◌}
 use native.Mathlib.Omega.{arith}
 use Prim.Native.Nat.{◌+◌}
 use lib.ListN.{drop}
+use Rattle.std.specs.Int.{from_bool}
 use Rattle.tape.specs.Gates.{gate_at}
 use Rattle.tape.specs.Parse.{gates_of}
 use Rattle.tape.specs.Good.{GoodGate}
 use Rattle.fuse.proofs.Labels.{heads, relabelling-none, relabelling-more, relabelling-end}
 use Rattle.fuse.proofs.relabel.relabel_all.Goals as goal
-
-pub start_labels-requires : goal.start_labels-requires
-start_labels-requires c = (omega (arith, c.requires.1), omega (arith, c.requires.1))
 
 pub loop-k-init : goal.loop-k-init
 loop-k-init c =
@@ -22,41 +20,29 @@ pub next_gate-p-requires : goal.next_gate-p-requires
 next_gate-p-requires c =
     record { cursor = c.loop-k.invariant.cursor; k_in_bounds = omega (arith, c.loop-k-test.true, c.requires.0.count) }
 
-pub gate_at-requires : goal.gate_at-requires
-gate_at-requires c = c.next_gate-p.ensures.whole
-
-pub label_gate-swaps-requires : goal.label_gate-swaps-requires
-label_gate-swaps-requires c =
+pub label_gate-requires : goal.label_gate-requires
+label_gate-requires c =
     let a = c.args in
     let l = c.loop-k in
     let z = c.start_labels.ensures.size in (
-      record { floats = omega (arith, c.requires.1, l.invariant.size); marks = omega (arith, c.requires.1, l.invariant.marks, z); few = c.requires.1.few },
-      c.loop-k-test.true,
-      l.invariant.labels,
-      l.invariant.within,
+      record {
+        space = record { floats = omega (arith, c.requires.1, l.invariant.size); marks = omega (arith, c.requires.1, l.invariant.marks, z); few = c.requires.1.few };
+        left = c.loop-k-test.true;
+        labels = l.invariant.labels;
+        within = l.invariant.within;
+      },
       subst (GoodGate a.n) (sym c.gate_at.ensures) (c.requires.0.good (gate_at a.tape.now c.next_gate-p.result.at) (heads l.k (gates_of a.tape.now) (drop (l.k + 1) (gates_of a.tape.now)) (gate_at a.tape.now c.next_gate-p.result.at) c.next_gate-p.ensures.gate)),
     )
 
 pub overflow_add-swaps : goal.overflow_add-swaps
-overflow_add-swaps c = omega (arith, c.requires.1, c.loop-k-test.true, c.loop-k.invariant.few, c.label_gate-swaps.ensures.few)
-
-pub overflow_add-k : goal.overflow_add-k
-overflow_add-k c = omega (arith, c.requires.1, c.loop-k-test.true)
-
-pub loop-k-smaller : goal.loop-k-smaller
-loop-k-smaller c = omega (arith, c.loop-k-test.true)
+overflow_add-swaps c = omega (arith, c.requires.1, c.loop-k-test.true, c.loop-k.invariant.few, c.from-swaps.ensures, c.label_gate.ensures.few)
 
 pub loop-k-preserved : goal.loop-k-preserved
 loop-k-preserved c =
     let a = c.args in
     let l = c.loop-k in
-    relabelling-more a.relabel a.tape.now a.w.now c.start_labels.new.u a.g a.n c.gate_at.result l.w c.label_gate-swaps.new.w l.u c.label_gate-swaps.new.u l.swaps l.at l.k c.label_gate-swaps.result c.next_gate-p.result.at c.next_gate-p.result.next c.loop-k-test.true l.invariant c.next_gate-p.ensures c.gate_at.ensures c.label_gate-swaps.ensures
-
-pub shape_of-w : goal.shape_of-w
-shape_of-w c = c.loop-k.invariant.size
-
-pub shape_of-u : goal.shape_of-u
-shape_of-u c = c.loop-k.invariant.marks ∙ c.start_labels.ensures.size
+    rw c.from-swaps.ensures
+    (relabelling-more a.relabel a.tape.now a.w.now c.start_labels.new.u a.g a.n c.gate_at.result l.w c.label_gate.new.w l.u c.label_gate.new.u l.swaps l.at l.k (from_bool c.label_gate.result) c.next_gate-p.result.at c.next_gate-p.result.next c.loop-k-test.true l.invariant c.next_gate-p.ensures c.gate_at.ensures c.label_gate.ensures)
 
 pub returns : goal.returns
 returns c =

@@ -1,11 +1,7 @@
 -- `fuse::relabel::relabel_all` meets its contract: what is left of the definition, from gate k on, gives the whole.
 -- Assumes nothing.
-use Prim.Native.Nat.{◌-◌}
 use Rattle.fuse.proofs.Labels.{Relabelling}
 use Rattle.fuse.proofs.relabel.relabel_all.Given as goal
 
 abbrev pub invariant-loop-k : goal.invariant-loop-k
 invariant-loop-k l = Relabelling l.relabel l.tape l.initial.w l.initial.u l.g l.n l.w l.u l.swaps l.at l.k
-
-abbrev pub decreases-loop-k : goal.decreases-loop-k
-decreases-loop-k l = l.g - l.k

@@ -3,6 +3,10 @@
 use Rattle.fuse.specs.Compress.{diagonal2_of}
 use Rattle.fuse.proofs.runs.diagonal2.Goals as goal
 
-pub returns : goal.returns
+pub returns-then-is_zero : goal.returns-then-is_zero
 unfolding diagonal2_of
-returns c = rw (c.both.ensures, c.is_zero-2.ensures, c.is_zero.ensures)
+returns-then-is_zero c = rw (← c.is_zero.ensures, c.if-is_zero.true, c.is_zero-then-is_zero.ensures)
+
+pub returns-else-is_zero : goal.returns-else-is_zero
+unfolding diagonal2_of
+returns-else-is_zero c = rw (← c.is_zero.ensures, c.if-is_zero.false)

@@ -1,63 +1,49 @@
 -- `fuse::runs::press` meets its contract: a law for each way out.
 -- Assumes nothing.
 use mathlib.Core.Path.{◌≡◌, sym, ap, ◌∙◌}
+use mathlib.Core.Bool.{false, ◌&&◌}
 use native.Mathlib.Omega.{arith}
-use Prim.Native.Nat.{◌+◌, ◌-◌}
+use Prim.Native.Nat.{◌+◌}
+use borrow.Author.Tests.{eqb-true, eqb-false}
 use Rattle.laws.specs.Views.{seek}
 use Rattle.work.specs.Marks.{mark_at}
-use Rattle.fuse.specs.Layout.{touches_at}
+use Rattle.fuse.specs.Compress.{diagonal2_of}
+use Rattle.fuse.specs.Layout.{touches_at, matrix2_of}
 use Rattle.fuse.proofs.Steps.{press-none, press-first, press-apart, press-takes}
 use Rattle.fuse.proofs.runs.press.Goals as goal
+use Rattle.fuse.proofs.runs.press.Goals.{else-diagonal2-via-then-diagonal2+else-diagonal2-2, else-diagonal2-via-else-diagonal2}
 
-pub mark-s-requires : goal.mark-s-requires
-mark-s-requires c = omega (arith, c.requires)
-
-pub previous-k-requires : goal.previous-k-requires
-previous-k-requires c = omega (arith, c.requires)
-
-pub returns-then-k-eq0 : goal.returns-then-k-eq0
-returns-then-k-eq0 c =
+pub returns-in_default : goal.returns-in_default
+returns-in_default c =
     let a = c.args in
-    press-none a.w.now a.u.now a.i c.requires.1 (sym (ap (λ x. seek (touches_at a.u.now x) a.i) c.mark-s.ensures) ∙ sym c.previous-k.ensures.is ∙ c.if-k-eq0.true)
+    press-none a.w.now a.u.now a.i c.requires.1 (sym (ap (λ x. seek (touches_at a.u.now x) a.i) c.mark-s.ensures) ∙ sym c.in_default.ensures.is)
 
-pub overflow_sub-t : goal.overflow_sub-t
-overflow_sub-t c = omega arith
-
-pub mark-kind-requires : goal.mark-kind-requires
-mark-kind-requires c = omega (arith, c.requires, c.previous-k.ensures.within)
-
-pub matrix2-m-requires : goal.matrix2-m-requires
-matrix2-m-requires c = omega (arith, c.requires)
-
-pub matrix2-n-requires : goal.matrix2-n-requires
-matrix2-n-requires c = omega (arith, c.requires, c.previous-k.ensures.within)
-
-pub put_matrix2-requires : goal.put_matrix2-requires
-put_matrix2-requires c = omega (arith, c.requires, c.previous-k.ensures.within)
-
-pub put_mark-requires : goal.put_mark-requires
-put_mark-requires c = omega (arith, c.requires)
-
-pub returns-then-both : goal.returns-then-both
-returns-then-both c =
+pub returns-then-diagonal2-2 : goal.returns-then-diagonal2-2
+returns-then-diagonal2-2 c =
     let a = c.args in
-    let k = c.previous-k.result in
-    let at : seek (touches_at a.u.now (mark_at a.u.now a.i 1)) a.i ≡ k - 1 + 1 = sym (ap (λ x. seek (touches_at a.u.now x) a.i) c.mark-s.ensures) ∙ sym c.previous-k.ensures.is ∙ omega (arith, c.if-k-eq0.false) in
-    rw (c.put_mark.ensures, c.put_matrix2.ensures, c.mul2.ensures, c.matrix2-m.ensures, c.matrix2-n.ensures)
-    (press-takes a.w.now a.u.now a.i c.requires.1 (k - 1) at (sym c.mark-kind.ensures ∙ c.if-kind-eq-ONE.true) (omega (arith, c.requires, c.previous-k.ensures.within)) (omega (arith, c.requires))
-    (rw (c.diagonal2.ensures, c.diagonal2-then-kind-eq-ONE.ensures, c.matrix2-m.ensures, c.matrix2-n.ensures) at (sym c.both.ensures ∙ c.if-both.true)))
+    let t = c.in-Some.t in
+    let found = c.in-Some.ensures in
+    let at : seek (touches_at a.u.now (mark_at a.u.now a.i 1)) a.i ≡ t + 1 = sym (ap (λ x. seek (touches_at a.u.now x) a.i) c.mark-s.ensures) ∙ sym found.is in
+    rw (c.put_kind.ensures, c.put_matrix.ensures, c.mul.ensures, c.matrix-m.ensures, c.matrix-n.ensures)
+    (press-takes a.w.now a.u.now a.i c.requires.1 t at (eqb-true _ _ (sym c.has_kind.ensures ∙ c.if-has_kind.true)) (omega (arith, found.within)) (omega arith)
+    (rw (← c.matrix-m.ensures, ← c.matrix-n.ensures, ← c.diagonal2.ensures, c.if-diagonal2.true, ← c.diagonal2-then-diagonal2.ensures, c.if-diagonal2-2.true)))
 
-pub returns-else-both : goal.returns-else-both
-returns-else-both c =
+pub returns-else-diagonal2 : goal.returns-else-diagonal2
+returns-else-diagonal2 c =
     let a = c.args in
-    let k = c.previous-k.result in
-    let at : seek (touches_at a.u.now (mark_at a.u.now a.i 1)) a.i ≡ k - 1 + 1 = sym (ap (λ x. seek (touches_at a.u.now x) a.i) c.mark-s.ensures) ∙ sym c.previous-k.ensures.is ∙ omega (arith, c.if-k-eq0.false) in
-    press-apart a.w.now a.u.now a.i c.requires.1 (k - 1) at (sym c.mark-kind.ensures ∙ c.if-kind-eq-ONE.true)
-    (rw (c.diagonal2.ensures, c.diagonal2-then-kind-eq-ONE.ensures, c.matrix2-m.ensures, c.matrix2-n.ensures) at (sym c.both.ensures ∙ c.if-both.false))
+    let t = c.in-Some.t in
+    let at : seek (touches_at a.u.now (mark_at a.u.now a.i 1)) a.i ≡ t + 1 = sym (ap (λ x. seek (touches_at a.u.now x) a.i) c.mark-s.ensures) ∙ sym c.in-Some.ensures.is in
+    let apart : (diagonal2_of (matrix2_of a.w.now t) && diagonal2_of (matrix2_of a.w.now a.i)) ≡ false =
+    rw (← c.matrix-m.ensures, ← c.matrix-n.ensures, ← c.diagonal2.ensures)
+    (elim c.else-diagonal2.branch [
+      | else-diagonal2-via-then-diagonal2+else-diagonal2-2 w ↦ rw (w.if-diagonal2.true, ← w.diagonal2-then-diagonal2.ensures, w.if-diagonal2-2.false)
+      | else-diagonal2-via-else-diagonal2 w ↦ rw w.if-diagonal2.false
+    ]) in
+    press-apart a.w.now a.u.now a.i c.requires.1 t at (eqb-true _ _ (sym c.has_kind.ensures ∙ c.if-has_kind.true)) apart
 
-pub returns-else-kind-eq-ONE : goal.returns-else-kind-eq-ONE
-returns-else-kind-eq-ONE c =
+pub returns-else-has_kind : goal.returns-else-has_kind
+returns-else-has_kind c =
     let a = c.args in
-    let k = c.previous-k.result in
-    let at : seek (touches_at a.u.now (mark_at a.u.now a.i 1)) a.i ≡ k - 1 + 1 = sym (ap (λ x. seek (touches_at a.u.now x) a.i) c.mark-s.ensures) ∙ sym c.previous-k.ensures.is ∙ omega (arith, c.if-k-eq0.false) in
-    press-first a.w.now a.u.now a.i c.requires.1 (k - 1) at (λ h. c.if-kind-eq-ONE.false (c.mark-kind.ensures ∙ h))
+    let t = c.in-Some.t in
+    let at : seek (touches_at a.u.now (mark_at a.u.now a.i 1)) a.i ≡ t + 1 = sym (ap (λ x. seek (touches_at a.u.now x) a.i) c.mark-s.ensures) ∙ sym c.in-Some.ensures.is in
+    press-first a.w.now a.u.now a.i c.requires.1 t at (eqb-false _ _ (sym c.has_kind.ensures ∙ c.if-has_kind.false))

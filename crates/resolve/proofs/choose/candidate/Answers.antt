@@ -1,14 +1,17 @@
--- `resolve::choose::candidate` meets its contract: the level goes by the rank.
+-- `resolve::choose::candidate` meets its contract: the level goes by the kind.
 -- Assumes nothing.
-use borrow.Author.Tests.{eq-eqb, ne_eqb}
+use mathlib.Core.Path.{◌≡◌, ◌∙◌}
 use Rattle.resolve.specs.Choose.{level_of, candidate_of}
+use Rattle.resolve.proofs.Scores.{level-neither, level-other}
 use Rattle.resolve.proofs.choose.candidate.Goals as goal
-use Rattle.resolve.proofs.choose.candidate.Goals.{then-rank-eq2, else-rank-eq2}
+use Rattle.resolve.proofs.choose.candidate.Goals.{in-NonGaussian, in_default}
 
 pub returns : goal.returns
-unfolding candidate_of level_of
+unfolding candidate_of
 returns c =
-    elim c.if-rank-eq2.branch [
-      | then-rank-eq2 w ↦ rw (w.level-is, w.residual-level.ensures, ← c.rank-rank.ensures, eq-eqb _ _ w.if-rank-eq2.true)
-      | else-rank-eq2 w ↦ rw (w.level-is, ← c.rank-rank.ensures, ne_eqb _ _ w.if-rank-eq2.false)
-    ]
+    let level : c.match-class.level ≡ level_of c.args.class.kind =
+    elim c.match-class.branch [
+      | in-NonGaussian w ↦ w.level-is ∙ level-neither _ _ w.in-NonGaussian.is
+      | in_default w ↦ w.level-is ∙ level-other _ w.in_default.not-NonGaussian
+    ] in
+    rw (c.rank.ensures, level)

@@ -1,10 +1,6 @@
 -- `resolve::cuts::next_on` meets its contract: no gate that was passed over is on the slot. Assumes nothing.
-use Prim.Native.Nat.{◌-◌}
 use Rattle.resolve.specs.Slots.{PassedOver}
 use Rattle.resolve.proofs.cuts.next_on.Given as goal
 
 abbrev pub invariant-loop-i : goal.invariant-loop-i
 invariant-loop-i l = PassedOver l.u l.s l.j l.g l.i
-
-abbrev pub decreases-loop-i : goal.decreases-loop-i
-decreases-loop-i l = l.g - l.i

@@ -5,7 +5,7 @@ use Rattle.resolve.proofs.Tails.{Gathering}
 use Rattle.resolve.proofs.cuts.prefixes.Given as goal
 
 abbrev pub invariant-loop-j : goal.invariant-loop-j
-invariant-loop-j l = Gathering l.initial.w l.w l.u l.k l.g l.s l.row l.len l.j l.acc
+invariant-loop-j l = Gathering l.initial.w l.w l.u l.k l.g l.s l.row l.len l.from l.acc
 
 abbrev pub decreases-loop-j : goal.decreases-loop-j
-decreases-loop-j l = l.g - l.j
+decreases-loop-j l = l.g - l.from

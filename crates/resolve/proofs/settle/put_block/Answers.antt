@@ -5,4 +5,4 @@ use Rattle.resolve.proofs.settle.put_block.Goals as goal
 
 pub returns : goal.returns
 unfolding item_floats
-returns c = rw (c.residual.ensures, c.put_matrix4.ensures)
+returns c = rw (c.residual.ensures, c.put_matrix.ensures)

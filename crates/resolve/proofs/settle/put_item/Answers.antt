@@ -5,4 +5,4 @@ use Rattle.resolve.proofs.settle.put_item.Goals as goal
 
 pub returns : goal.returns
 unfolding item_marks
-returns c = rw (c.put_mark-3.ensures, c.put_mark-2.ensures, c.put_mark.ensures)
+returns c = rw (c.put_mark-2.ensures, c.put_mark.ensures, c.put_kind.ensures)
