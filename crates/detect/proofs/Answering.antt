@@ -1,16 +1,13 @@
 -- Question 10 and the operations: the report's number of operations is that of the program, which is what is written; and a slice made zero. Assumes nothing.
 use mathlib.Core.Path.{◌≡◌, refl, sym, ap, ◌∙◌}
 use mathlib.Core.Bool.{Bool, true, false, cond}
-use mathlib.Core.List.{List, []}
-use Prim.Native.Nat.{ℕ, ◌+◌, ◌*◌, ◌≤◌, ◌<◌}
+use mathlib.Core.List.{List, [], ◌∷◌}
+use Prim.Native.Nat.{ℕ, ◌+◌, ◌*◌, ◌≤◌}
 use native.Mathlib.Omega.{arith}
-use lib.ListN.{length, get_or-eq_default}
+use lib.ListN.{length, replicate}
 use lib.Ieee.{Float}
-use borrow.Author.Tests.{lt-ltb, le-ltb}
-use Rattle.laws.specs.Slices.{filled}
-use Rattle.laws.proofs.Slices.{filled-over}
+use Rattle.laws.specs.Slices.{mapped_to, filled}
 use Rattle.laws.specs.Bounds.{op_places}
-use Rattle.tape.specs.Parse.{Content}
 use Rattle.tape.specs.declared.header.Header.{Header}
 use Rattle.tape.specs.declared.gates.Gate.{Gate}
 use Rattle.detect.specs.declared.report.Report.{Report}
@@ -19,26 +16,20 @@ use Rattle.detect.specs.Emit.{operations_of}
 use Rattle.detect.specs.Records.{items_in, modes_in}
 use Rattle.detect.specs.Report.{free_of, report_of}
 use Rattle.detect.specs.Compile.{items_of, mode_of_wire, tape_counts, reported_of, program_of}
-use Rattle.detect.specs.Questions.{late, passed, asked_ten}
 use Rattle.detect.specs.Program.{Detected}
 use Rattle.detect.proofs.Placing.{length-all, placed-none}
 use Rattle.detect.proofs.Emitting.{counts-operations, operations-same}
 
 -- ---- a slice made zero
 
-pub filled-whole : {A : Type 0} (v d : A) (l m : List A) → length m ≡ length l → filled (length m) v m ≡ filled (length l) v l
-filled-whole v d l m e =
-    ap (λ k. filled k v m) e
-    ∙ filled-over (length l) v d l m e (λ i h. get_or-eq_default m d {n = i} (omega (arith, e, h)) ∙ sym (get_or-eq_default l d {n = i} h))
+all-filled : {A : Type 0} (v : A) (l : List A) → replicate (length l) v ≡ filled (length l) v l
+unfolding mapped_to
+all-filled v [] = refl
+all-filled v (x ∷ l) = ap (λ m. v ∷ m) (all-filled v l)
 
--- ---- question 10
-
-module _ (h : Header) (c : Content) (o : ℕ) where
-  pub ten-short : o < op_places * length (program_of h c.gates) → asked_ten o h c ≡ late 10 h c
-  ten-short l = rw (lt-ltb o (op_places * length (program_of h c.gates)) l)
-
-  pub ten-long : op_places * length (program_of h c.gates) ≤ o → asked_ten o h c ≡ passed h c
-  ten-long l = rw (le-ltb o (op_places * length (program_of h c.gates)) l)
+-- a fill of a slice that is as long as l
+pub replicated : {A : Type 0} (v : A) (l : List A) (k : ℕ) → k ≡ length l → replicate k v ≡ filled (length l) v l
+replicated v l k e = ap (λ k. replicate k v) e ∙ all-filled v l
 
 -- ---- the report's numbers
 
@@ -84,10 +75,7 @@ module _ (h : Header) (gs : List Gate) where
     unfolding program_of
     program-is e = rw (sym free-is ∙ e) (sym emits)
 
-    pub too_short : (o : ℕ) → o < op_places * r.operations → o < op_places * length (program_of h gs)
-    too_short o k = omega (arith, k, number_is)
-
-    pub long-enough : (o : ℕ) → op_places * r.operations ≤ o → op_places * length (program_of h gs) ≤ o
+    long-enough : (o : ℕ) → op_places * r.operations ≤ o → op_places * length (program_of h gs) ≤ o
     long-enough o k = omega (arith, k, number_is)
 
     pub emits-fit : (o : ℕ) → op_places * r.operations ≤ o → r.free ≡ true → length (all_places (operations_of (modes_in vs) (items_in ys vs (g + h.n)))) ≤ o

@@ -1,14 +1,14 @@
 -- From the check of a tape to its parse, question 9 and what is lent on, and the front of a slice made zero. Assumes nothing.
 use mathlib.Core.Path.{◌≡◌, refl, sym, ap, ap₂, ◌∙◌}
-use mathlib.Core.Bool.{Bool, true, false, cond}
+use mathlib.Core.Bool.{Bool, true, false, true≢false, cond}
 use mathlib.Core.List.{List, [], ◌∷◌, ◌++◌}
-use Prim.Native.Nat.{ℕ, zero, suc, ◌-◌, ◌≤◌, ◌<◌}
+use Prim.Native.Nat.{ℕ, zero, suc, ◌≤◌}
 use native.Mathlib.Omega.{arith}
 use lib.Dec.{ltb}
 use lib.ListN.{length, take, drop}
 use lib.Seq.{length-take-le}
 use lib.Ieee.{Float}
-use borrow.Author.Tests.{lt-ltb, le-ltb, ltb-false}
+use borrow.Author.Tests.{ltb-false}
 use Rattle.laws.specs.Slices.{mapped_to, filled}
 use Rattle.laws.specs.Bounds.{max_qubits}
 use Rattle.work.specs.Sizes.{work_floats, work_marks}
@@ -18,11 +18,14 @@ use Rattle.tape.proofs.CursorLaws.{checked-passed}
 use Rattle.tape.proofs.GoodLaws.{gates-good, gates-few}
 use Rattle.fuse.specs.Layout.{Space}
 use Rattle.fuse.specs.Slotted.{Gates}
-use Rattle.tape.specs.declared.check.Checked.TheVariants.{Good, Refused}
-use Rattle.detect.specs.Compile.{program_of}
-use Rattle.detect.specs.declared.lending.Lending.TheVariants.{Parts, Short}
-use Rattle.detect.specs.Questions.{Asked, early, late, passed, work_after, has_work, asked_nine, asked_from, ops_lack, asked_ten}
-use Rattle.detect.specs.Lending.{lending_of, Read, Lent}
+use Rattle.tape.specs.Checked.{Good, Refused}
+use Rattle.std.specs.Prelude.{Result, Ok, Err}
+use Rattle.std.specs.Result.{is_ok, result_unwrap_or}
+use Rattle.detect.specs.declared.lending.Parts.{Parts}
+use Rattle.detect.specs.declared.refusal.Refusal.{Refusal}
+use Rattle.detect.specs.declared.refusal.Refusal.TheVariants.{SmallWork}
+use Rattle.detect.specs.Questions.{Asked, early, has_work, asked_nine, asked_from}
+use Rattle.detect.specs.Lending.{parts_of, lending_of, Read, Lent}
 
 -- ---- tests
 
@@ -32,49 +35,58 @@ taken t a b e = rw e
 pub left : {A : Type 0} (t : Bool) (a b : A) → t ≡ false → cond t a b ≡ b
 left t a b e = rw e
 
+-- ---- results
+
+module _ {A B : Type 0} where
+  pub ok-err : {x : A} {e : B} → ◌≡◌ {A = Result A B} (Ok x) (Err e) → ⊥
+  ok-err h = true≢false (ap is_ok h)
+
+  pub same-ok : {x y : A} → ◌≡◌ {A = Result A B} (Ok x) (Ok y) → x ≡ y
+  same-ok {x = x} h = ap (λ r. result_unwrap_or r x) h
+
+  err_or : B → Result A B → B
+  err_or e (Ok x) = e
+  err_or e (Err why) = why
+
+  pub same-err : {e f : B} → ◌≡◌ {A = Result A B} (Err e) (Err f) → e ≡ f
+  unfolding err_or
+  same-err {e = e} h = ap (err_or e) h
+
 -- ---- question 9
 
--- what a lending of x floats and y marks says, of slices of w and u places
-pub record Lends (g n w u x y : ℕ) : Type 0 where
+-- what the lengths p of the parts say, of slices of w and u places
+pub record Lends (g n w u : ℕ) (p : Parts) : Type 0 where
   pub some : has_work g n w u ≡ true
-  pub floats : x ≡ work_floats g n
-  pub marks : y ≡ work_marks g n
-  pub floats-there : x ≤ w
-  pub marks-there : y ≤ u
+  pub floats : p.floats ≡ work_floats g n
+  pub marks : p.marks ≡ work_marks g n
+  pub floats-there : p.floats ≤ w
+  pub marks-there : p.marks ≤ u
 
 module _ (g n w u : ℕ) where
-  pub lends-parts : work_floats g n ≤ w → work_marks g n ≤ u → Parts (work_floats g n) (work_marks g n) ≡ lending_of g n w u
-  lends-parts a b = rw (le-ltb w (work_floats g n) a, le-ltb u (work_marks g n) b)
-
-  pub lacks-floats : w < work_floats g n → Short ≡ lending_of g n w u
-  lacks-floats a = rw (lt-ltb w (work_floats g n) a)
-
-  pub lacks-marks : work_floats g n ≤ w → u < work_marks g n → Short ≡ lending_of g n w u
-  lacks-marks a b = rw (le-ltb w (work_floats g n) a, lt-ltb u (work_marks g n) b)
-
-  pub lent-short : lending_of g n w u ≡ Short → has_work g n w u ≡ false
-  lent-short e = by (has_work g n w u) refl
+  pub lent-short : {e : Refusal} → lending_of g n w u ≡ Err e → (has_work g n w u ≡ false) × (e ≡ SmallWork)
+  lent-short {e = e} q = by (has_work g n w u) refl q
     where
-      by : (b : Bool) → has_work g n w u ≡ b → has_work g n w u ≡ false
-      by false h = h
-      by true h = absurd (let z : Parts (work_floats g n) (work_marks g n) ≡ Short = sym (taken _ _ _ h) ∙ e in let y : ◌≡◌ {A = ℕ} 0 1 = cc in omega arith)
+      by : (b : Bool) → has_work g n w u ≡ b → cond b (Ok (parts_of g n)) (Err SmallWork) ≡ Err e → (has_work g n w u ≡ false) × (e ≡ SmallWork)
+      by false h k = (h, sym (same-err k))
+      by true h k = absurd (ok-err k)
 
-  pub lent-parts : {x y : ℕ} → lending_of g n w u ≡ Parts x y → Lends g n w u x y
-  lent-parts {x = x} {y = y} e = by (ltb w (work_floats g n)) (ltb u (work_marks g n)) refl refl
+  pub lent-parts : {p : Parts} → lending_of g n w u ≡ Ok p → Lends g n w u p
+  lent-parts {p = p} e = by (ltb w (work_floats g n)) (ltb u (work_marks g n)) refl refl
     where
-      by : (a b : Bool) → ltb w (work_floats g n) ≡ a → ltb u (work_marks g n) ≡ b → Lends g n w u x y
-      by true b h k = absurd (let z : Short ≡ Parts x y = sym (rw h) ∙ e in let y : ◌≡◌ {A = ℕ} 0 1 = cc in omega arith)
-      by false true h k = absurd (let z : Short ≡ Parts x y = sym (rw (h, k)) ∙ e in let y : ◌≡◌ {A = ℕ} 0 1 = cc in omega arith)
+      by : (a b : Bool) → ltb w (work_floats g n) ≡ a → ltb u (work_marks g n) ≡ b → Lends g n w u p
+      by true b h k = absurd (ok-err (let z : Err SmallWork ≡ Ok p = sym (rw h) ∙ e in sym z))
+      by false true h k = absurd (ok-err (let z : Err SmallWork ≡ Ok p = sym (rw (h, k)) ∙ e in sym z))
       by false false h k =
-          let same : Parts (work_floats g n) (work_marks g n) ≡ Parts x y = sym (rw (h, k)) ∙ e in
-          let a : work_floats g n ≡ x = cc in
-          let b : work_marks g n ≡ y = cc in
+          let same : Ok (parts_of g n) ≡ Ok p = sym (rw (h, k)) ∙ e in
+          let is = same-ok same in
+          let floats : work_floats g n ≡ p.floats = ap (λ p. p.floats) is in
+          let marks : work_marks g n ≡ p.marks = ap (λ p. p.marks) is in
           record {
             some = rw (h, k);
-            floats = sym a;
-            marks = sym b;
-            floats-there = omega (arith, ltb-false w (work_floats g n) h, a);
-            marks-there = omega (arith, ltb-false u (work_marks g n) k, b);
+            floats = sym floats;
+            marks = sym marks;
+            floats-there = omega (arith, ltb-false w (work_floats g n) h, floats);
+            marks-there = omega (arith, ltb-false u (work_marks g n) k, marks);
           }
 
 -- what is lent on for a tape has the places of its gates and its qubits
@@ -89,19 +101,15 @@ lent-space t h g w u l =
 
 -- ---- the front of a slice
 
-pub front_length : {A : Type 0} (k : ℕ) (l : List A) → k ≤ length l → length (take (k - 0) l) ≡ k
-front_length k l h = let z : k - 0 ≡ k = omega arith in rw z (length-take-le k l h)
-
 filled-split : {A : Type 0} (k : ℕ) (v : A) (l : List A) → k ≤ length l → filled k v (take k l) ++ drop k l ≡ filled k v l
 unfolding mapped_to
 filled-split zero v l h = refl
 filled-split (suc k) v [] h = refl
 filled-split (suc k) v (x ∷ l) h = ap (λ m. v ∷ m) (filled-split k v l (omega arith))
 
-pub front-filled : {A : Type 0} (k : ℕ) (v : A) (l ys : List A) → k ≤ length l → ys ≡ filled (length (take (k - 0) l)) v (take (k - 0) l) → ys ++ drop (k - 0) l ≡ filled k v l
+pub front-filled : {A : Type 0} (k : ℕ) (v : A) (l ys : List A) → k ≤ length l → ys ≡ filled (length (take k l)) v (take k l) → ys ++ drop k l ≡ filled k v l
 front-filled k v l ys h e =
-    let z : k - 0 ≡ k = omega arith in
-    ap (λ m. m ++ drop (k - 0) l) (e ∙ ap (λ j. filled j v (take (k - 0) l)) (front_length k l h)) ∙ ap (λ j. filled k v (take j l) ++ drop j l) z ∙ filled-split k v l h
+    ap (λ m. m ++ drop k l) (e ∙ ap (λ j. filled j v (take k l)) (length-take-le k l h)) ∙ filled-split k v l h
 
 -- ---- a tape that is refused
 
@@ -138,20 +146,3 @@ read-good t h g l e =
       qubits = rw p.header_is p.header.qubits;
       few = rw p.gates (gates-few t);
     }
-
--- ---- work is zero from 9 on
-
-pub ten-work : {A : Type 0} (k : ℕ → ℕ → ℕ) (v : A) (o : ℕ) (h : Header) (c : Content) (l : List A)
-    → work_after k v (asked_ten o h c) l ≡ filled (k (length c.gates) h.n) v l
-unfolding work_after
-ten-work k v o h c l = by (ops_lack o (length (program_of h c.gates)))
-  where
-    by : (b : Bool) → work_after k v (cond b (late 10 h c) (passed h c)) l ≡ filled (k (length c.gates) h.n) v l
-    by true = refl
-    by false = refl
-
-pub nine-work : {A : Type 0} (k : ℕ → ℕ → ℕ) (v : A) (next : Header → Content → Asked) (h : Header) (c : Content) (g w u : ℕ) (l : List A)
-    → has_work g h.n w u ≡ true → g ≡ length c.gates → work_after k v (next h c) l ≡ filled (k (length c.gates) h.n) v l
-    → filled (k g h.n) v l ≡ work_after k v (asked_nine next h c g w u) l
-nine-work k v next h c g w u l some count rest =
-    ap (λ g. filled (k g h.n) v l) count ∙ sym rest ∙ sym (ap (λ x. work_after k v x l) (taken _ _ _ some))

@@ -9,7 +9,6 @@ use native.Mathlib.Omega.{arith}
 use lib.ListN.{length, length-append}
 use lib.Seq.{paste}
 use lib.Ieee.{Float, le}
-use borrow.Author.Tests.{ne_eqb}
 use Rattle.laws.specs.Bounds.{op_places}
 use Rattle.laws.proofs.Cases.{eq-or-ne}
 use Rattle.real.specs.declared.maps.Map2.{Map2}
@@ -19,10 +18,9 @@ use Rattle.work.specs.Columns.{kind_column, a_column, b_column, match_item, diag
 use Rattle.fuse.specs.Layout.{matrix4_of}
 use Rattle.majorana.specs.Majorana.{majorana_map1_of, majorana_map2_of}
 use Rattle.majorana.specs.Numbers.{commutes_j2_of}
-use Rattle.majorana.specs.declared.maps.Mapped2.{Mapped2}
+use Rattle.majorana.specs.declared.maps.Mapped.{Mapped}
 use Rattle.classify.specs.Diagonal.{phase_a_of, phase_b_of, interaction_of, unit_of, rotation_of}
-use Rattle.classify.specs.declared.diagonal.Rotation.{Rotation}
-use Rattle.classify.specs.declared.diagonal.Rotation.TheVariants.{By, Nothing}
+use Rattle.std.specs.Prelude.{Option, Some, None}
 use Rattle.order.specs.Arrangement.{beside_of}
 use Rattle.resolve.specs.Items as Items
 use Rattle.resolve.specs.Items.{Item, ItemKind, ItemBelow, ItemsBelow}
@@ -73,9 +71,9 @@ module _ (xs : List Float) (us : List ℕ) (pos : ℕ → ℕ) where
 
 -- ---- the number of operations
 
-turned-is : (k : ℕ) (x : Rotation) → turned x ≡ length (rotated k x)
-turned-is k (By q) = refl
-turned-is k Nothing = refl
+turned-is : (k : ℕ) (x : Option Map2) → turned x ≡ length (rotated k x)
+turned-is k (Some q) = refl
+turned-is k None = refl
 
 pub turns-is : (i j : ℕ) (v : Mat4) → turns_in v ≡ length (rotations_of i j v)
 unfolding turns_in rotations_of
@@ -84,7 +82,7 @@ turns-is i j v =
     let b = rotation_of (phase_b_of v) in
     ap₂ ◌+◌ (turned-is i a) (turned-is j b) ∙ sym (length-append (rotated i a) (rotated j b))
 
-one-operations : (tol : Float) (m : Mapped2) → (one_share tol m).operations ≡ 1
+one-operations : (tol : Float) (m : Mapped Map2) → (one_share tol m).operations ≡ 1
 unfolding one_share
 one-operations tol m = go (le m.residual tol)
   where
@@ -162,10 +160,6 @@ module _ (block mark i j : ℕ) (v : Mat4) where
   unfolding two_operations kind_at
   two-interaction e = rw e refl
 
-  pub two-neither : (mark ≡ match_item → ⊥) → (mark ≡ diagonal_item → ⊥) → (mark ≡ interaction_item → ⊥) → two_operations block (kind_at mark) i j v ≡ []
-  unfolding two_operations kind_at
-  two-neither a b c = rw (ne_eqb mark match_item a, ne_eqb mark diagonal_item b, ne_eqb mark interaction_item c)
-
 -- the operation of the matchgate of record i
 module _ (xs : List Float) (us : List ℕ) (pos : ℕ → ℕ) where
   abbrev pub match_of : ℕ → Operation
@@ -181,7 +175,7 @@ module _ (xs : List Float) (us : List ℕ) (pos : ℕ → ℕ) where
 
 -- ---- rotations
 
-module _ {q : Map2} (k : ℕ) (x : Rotation) (e : x ≡ By q) where
+module _ {q : Map2} (k : ℕ) (x : Option Map2) (e : x ≡ Some q) where
   pub by-long : length (all_places (rotated k x)) ≡ op_places
   by-long = rw e (one-long (one k q))
 
@@ -189,7 +183,7 @@ module _ {q : Map2} (k : ℕ) (x : Rotation) (e : x ≡ By q) where
   unfolding places_of
   put-by p l m y h g = rw e (put_one p l (one k q) m y h g)
 
-pub put-nothing : (k : ℕ) (x : Rotation) (p : ℕ) (l : List Float) → x ≡ Nothing → Put (rotated k x) p l l p
+pub put-nothing : (k : ℕ) (x : Option Map2) (p : ℕ) (l : List Float) → x ≡ None → Put (rotated k x) p l l p
 put-nothing k x p l e = rw e (put-none p l)
 
 -- ---- a turn of the loop

@@ -12,3 +12,5 @@ pub mod Answering
 pub mod Checking
 pub mod Reports
 pub mod Edges
+pub mod Judging
+pub mod Apart

@@ -10,10 +10,10 @@ use Rattle.gate.specs.declared.matrix.Mat4.{Mat4}
 use Rattle.order.specs.Arrangement.{beside_of}
 use Rattle.majorana.specs.Majorana.{majorana_map1_of, majorana_map2_of}
 use Rattle.majorana.specs.Numbers.{commutes_j2_of}
-use Rattle.majorana.specs.declared.maps.Mapped2.{Mapped2}
+use Rattle.majorana.specs.declared.maps.Mapped.{Mapped}
 use Rattle.classify.specs.Diagonal.{phase_a_of, phase_b_of, rotation_of}
-use Rattle.classify.specs.declared.diagonal.Rotation.{Rotation}
-use Rattle.classify.specs.declared.diagonal.Rotation.TheVariants.{By, Nothing}
+use Rattle.std.specs.Prelude.{Option, Some, None}
+use Rattle.real.specs.declared.maps.Map2.{Map2}
 use Rattle.resolve.specs.Items as Items
 use Rattle.resolve.specs.Items.{Item, ItemKind}
 use Rattle.detect.specs.declared.count.Counts.{Counts}
@@ -37,7 +37,7 @@ gaussian-adds two ops r b h g = record { blocks = refl; items = refl; two = h; n
 bad-adds : (two ops : ℕ) (r : Float) → two ≤ 1 → ops ≤ 3 → Adds (bad two ops r) 1
 bad-adds two ops r h g = record { blocks = refl; items = refl; two = h; nonadjacent = omega arith; operations = omega arith }
 
-one-adds : (tol : Float) (m : Mapped2) → Adds (one_share tol m) 1
+one-adds : (tol : Float) (m : Mapped Map2) → Adds (one_share tol m) 1
 unfolding one_share
 one-adds tol m = go (le m.residual tol)
   where
@@ -57,9 +57,9 @@ pub turns-few : (v : Mat4) → turns_in v ≤ 2
 unfolding turns_in
 turns-few v = omega (arith, once (rotation_of (phase_a_of v)), once (rotation_of (phase_b_of v)))
   where
-    once : (x : Rotation) → turned x ≤ 1
-    once (By q) = omega arith
-    once Nothing = omega arith
+    once : (x : Option Map2) → turned x ≤ 1
+    once (Some q) = omega arith
+    once None = omega arith
 
 two-adds : (kind : ItemKind) (i j : ℕ) (r : Float) (v : Mat4) → Adds (two_share kind i j r v) 1
 unfolding two_share

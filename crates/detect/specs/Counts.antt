@@ -7,11 +7,11 @@ use Rattle.gate.specs.Complex.{f0, f1}
 use Rattle.gate.specs.declared.matrix.Mat4.{Mat4}
 use Rattle.majorana.specs.Majorana.{majorana_map1_of, majorana_map2_of}
 use Rattle.majorana.specs.Numbers.{commutes_j2_of, number_conserving4_of}
-use Rattle.majorana.specs.declared.maps.Mapped2.{Mapped2}
-use Rattle.majorana.specs.declared.maps.Mapped4.{Mapped4}
+use Rattle.majorana.specs.declared.maps.Mapped.{Mapped}
+use Rattle.real.specs.declared.maps.Map4.{Map4}
 use Rattle.classify.specs.Diagonal.{phase_a_of, phase_b_of, rotation_of}
-use Rattle.classify.specs.declared.diagonal.Rotation.{Rotation}
-use Rattle.classify.specs.declared.diagonal.Rotation.TheVariants.{By, Nothing}
+use Rattle.std.specs.Prelude.{Option, Some, None}
+use Rattle.real.specs.declared.maps.Map2.{Map2}
 use Rattle.order.specs.Arrangement.{beside_of}
 use Rattle.resolve.specs.Items as Items
 use Rattle.resolve.specs.Items.{Item, ItemKind}
@@ -35,22 +35,22 @@ apart = record { blocks = 1; two = 1; gaussian = 0; bad = 1; nonadjacent = 1; in
 
 -- ---- one wire
 
-unfoldable pub one_share : Float → Mapped2 → Counts
+unfoldable pub one_share : Float → Mapped Map2 → Counts
 one_share tol m = cond (le m.residual tol) (gaussian 0 1 m.residual (commutes_j2_of m.q)) (bad 0 1 m.residual)
 
 -- ---- two wires, of modes i and j
 
 -- a matchgate: the larger residual of the map that is applied and of the class
-unfoldable pub adjacent_share : Float → Mapped4 → Counts
+unfoldable pub adjacent_share : Float → Mapped Map4 → Counts
 adjacent_share r m = gaussian 1 1 (max_of m.residual r) (number_conserving4_of m.q)
 
 unfoldable pub match_share : ℕ → ℕ → Float → Mat4 → Counts
 match_share i j r v = cond (beside_of i j) (adjacent_share r (majorana_map2_of (oriented_of i j v))) apart
 
 -- a diagonal block has no residual, and turns each wire or does not
-abbrev pub turned : Rotation → ℕ
-turned (By q) = 1
-turned Nothing = 0
+abbrev pub turned : Option Map2 → ℕ
+turned (Some q) = 1
+turned None = 0
 
 unfoldable pub turns_in : Mat4 → ℕ
 turns_in v = turned (rotation_of (phase_a_of v)) + turned (rotation_of (phase_b_of v))

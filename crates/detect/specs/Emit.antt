@@ -5,8 +5,8 @@ use Rattle.gate.specs.Matrix.{mat4_swap_qubits_of}
 use Rattle.gate.specs.declared.matrix.Mat4.{Mat4}
 use Rattle.majorana.specs.Majorana.{majorana_map1_of, majorana_map2_of}
 use Rattle.classify.specs.Diagonal.{phase_a_of, phase_b_of, interaction_of, unit_of, rotation_of}
-use Rattle.classify.specs.declared.diagonal.Rotation.{Rotation}
-use Rattle.classify.specs.declared.diagonal.Rotation.TheVariants.{By, Nothing}
+use Rattle.std.specs.Prelude.{Option, Some, None}
+use Rattle.real.specs.declared.maps.Map2.{Map2}
 use Rattle.resolve.specs.Items as Items
 use Rattle.resolve.specs.Items.{Item, ItemKind}
 use Rattle.detect.specs.Records.{record_item, items_in, modes_in}
@@ -25,9 +25,9 @@ lower_of i j = cond (ltb i j) i j
 -- ---- diagonal blocks
 
 -- the rotation of mode k, if there is one
-abbrev pub rotated : ℕ → Rotation → List Operation
-rotated k (By q) = one k q ∷ []
-rotated k Nothing = []
+abbrev pub rotated : ℕ → Option Map2 → List Operation
+rotated k (Some q) = one k q ∷ []
+rotated k None = []
 
 -- "rotations of a diagonal block": for the first wire, then for the second
 unfoldable pub rotations_of : ℕ → ℕ → Mat4 → List Operation

@@ -7,6 +7,8 @@ pub mod Kept
 pub mod Report
 pub mod Words
 pub mod Compile
+pub mod Answers
 pub mod Questions
+pub mod Told
 pub mod Lending
 pub mod Program

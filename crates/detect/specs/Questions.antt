@@ -5,33 +5,11 @@ use Rattle.laws.specs.Slices.{filled}
 use Rattle.laws.specs.Bounds.{op_places}
 use Rattle.gate.specs.Complex.{f0}
 use Rattle.work.specs.Sizes.{work_floats, work_marks}
-use Rattle.tape.specs.Parse.{Parsed, Content, refused, accepted, parse, content_of}
+use Rattle.tape.specs.Parse.{Parsed, Content, refused, accepted, parse}
 use Rattle.tape.specs.declared.header.Header.{Header}
-use Rattle.detect.specs.declared.report.Report.{Report}
-use Rattle.detect.specs.declared.report.Answer.{Answer}
-use Rattle.detect.specs.declared.report.Answer.TheVariants.{Done, Refused}
-use Rattle.detect.specs.declared.report.Compiled.{Compiled}
+use Rattle.detect.specs.Answers.{Compiled, refusal, done}
 use Rattle.detect.specs.Operation.{written}
-use Rattle.detect.specs.Report.{no_report}
 use Rattle.detect.specs.Compile.{reported_of, program_of}
-
--- ---- an answer as numbers
-
--- the question whose answer is no, 0 if there is none
-abbrev pub number_of : Answer → ℕ
-number_of Done = 0
-number_of (Refused number place) = number
-
-abbrev pub place_of : Answer → ℕ
-place_of Done = 0
-place_of (Refused number place) = place
-
--- "A refusal's numbers are zero"
-abbrev pub refusal : ℕ → ℕ → Compiled
-refusal number place = record { answer = Answer.Refused number place; report = no_report }
-
-abbrev pub done : Report → Compiled
-done r = record { answer = Answer.Done; report = r }
 
 -- ---- what the questions come to
 
@@ -84,13 +62,7 @@ asked_ten o h c = cond (ops_lack o (length (program_of h c.gates))) (late 10 h c
 
 -- ---- of the tape's bytes and the lent slices
 
--- 10, from 9 on, and all
-abbrev pub ten_asked : List ℕ → Header → List Float → Asked
-ten_asked t h ops = asked_ten (length ops) h (content_of (parse t))
-
-abbrev pub nine_asked : List ℕ → Header → ℕ → List Float → List ℕ → List Float → Asked
-nine_asked t h g work marks ops = asked_nine (asked_ten (length ops)) h (content_of (parse t)) g (length work) (length marks)
-
+-- all
 abbrev pub asked : List ℕ → List Float → List ℕ → List Float → Asked
 asked t work marks ops = asked_from (asked_ten (length ops)) (parse t) (length work) (length marks)
 

@@ -48,11 +48,7 @@ pub fn copy(x: &[f64], a: usize, l: &mut [f64], p: usize)
     requires { (a + op_places ≤ length x.now) × (p + op_places ≤ length l.old) }
     ensures { l.new ≡ paste l.old p (drop a x.now) op_places }
 {
-    let mut k = 0;
-    while k < OP_PLACES {
-        l[p + k] = x[a + k];
-        k += 1;
-    }
+    l[p..p + OP_PLACES].copy_from_slice(&x[a..a + OP_PLACES]);
 }
 
 // Writes an operation's places from p on.

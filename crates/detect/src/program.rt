@@ -8,27 +8,28 @@ ghost use Rattle.detect.specs.Program.{Detected};
 
 use crate::count::count_all;
 use crate::report::{Report, report_of};
-use crate::tables::{column_table, mode_table};
+use crate::tables::Tables;
 use fuse::relabel_all;
 use order::choose_order;
-use resolve::fuse_events;
-use tape::Header;
-use work::{ORDER, START};
+use resolve::{Rules, fuse_events};
+use tape::Contents;
 
-// The report of the tape with the header h and g gates.
-pub fn detect(tape: &[u8], h: Header, g: usize, w: &mut [f64], u: &mut [u32]) -> Report
-    requires { Gates tape.now g h.n × Space w.old u.old g h.n × (h.n ≤ max_qubits) }
-    ensures { Detected h (gates_of tape.now) g w.old w.new u.old u.new result }
+// The report of a tape with this header and so many gates.
+pub fn detect(tape: &[u8], c: Contents, w: &mut [f64], u: &mut [u32]) -> Report
+    requires { Gates tape.now c.gates c.header.n × Space w.old u.old c.gates c.header.n × (c.header.n ≤ max_qubits) }
+    ensures { Detected c.header (gates_of tape.now) c.gates w.old w.new u.old u.new result }
 {
+    let h = c.header;
+    let g = c.gates;
     let n = h.n;
-    let relabel = h.flags % 2 == 1;
-    let reorder = h.flags / 2 % 2 == 1;
+    let relabel = h.relabels();
     let swaps = relabel_all(tape, w, u, g, n, relabel);
-    let t = fuse_events(w, u, g, n, relabel, h.tolerance, swaps);
-    let o = choose_order(u, g + n, n, reorder);
-    let c = count_all(w, u, g + n, n, h.tolerance);
-    let order = column_table(u, n, ORDER);
-    let starts = column_table(u, n, START);
-    let modes = mode_table(u, n);
-    report_of(n, c, t.swaps, t.angled, o, order, starts, modes)
+    let rules = Rules {
+        relabel,
+        tol: h.tolerance,
+    };
+    let fused = fuse_events(w, u, g, n, rules, swaps);
+    let ordering = choose_order(u, g + n, n, h.reorders());
+    let counts = count_all(w, u, g + n, n, h.tolerance);
+    report_of(n, counts, fused, ordering, Tables::of(u, n))
 }

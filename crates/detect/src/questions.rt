@@ -1,134 +1,112 @@
 // The questions 1 to 10, the report and the operations.
-ghost use Rattle.std.specs.Prelude.{◌≡◌, true, cond, ◌≤◌, length};
+ghost use Rattle.std.specs.Prelude.{◌≡◌, ℕ, true, cond, ◌*◌, ◌≤◌, length, Result, Ok, Err};
 ghost use Rattle.laws.specs.Slices.{filled};
+ghost use Rattle.laws.specs.Bounds.{max_qubits, op_places};
 ghost use Rattle.gate.specs.Complex.{f0};
-ghost use Rattle.work.specs.Sizes.{work_floats, work_marks};
+ghost use Rattle.tape.specs.Parse.{Content, content_of, parse};
 ghost use Rattle.detect.specs.Operation.{all_places, written};
 ghost use Rattle.detect.specs.Emit.{operations_in};
 ghost use Rattle.detect.specs.Records.{Held};
 ghost use Rattle.detect.specs.Kept.{Kept};
-ghost use Rattle.detect.specs.Questions.{answer_of, work_after, ops_after, ten_asked, nine_asked};
-ghost use Rattle.detect.specs.Lending.{Read, Lent};
-ghost use Rattle.detect.specs.Questions.{compiled, compiled_work, compiled_marks, compiled_ops};
+ghost use Rattle.detect.specs.Lending.{Lent};
+ghost use Rattle.detect.specs.Questions.{Asked, answer_of, ops_after, asked_from, asked_ten, compiled, compiled_work, compiled_marks, compiled_ops};
+ghost use Rattle.detect.specs.Told.{told, ten_of, AfterNine, JudgedAs, Judges, Leaves};
 
 use crate::emit::emit_all;
-use crate::lending::{Lending, lend};
+use crate::lending::lend;
 use crate::places::OP_PLACES;
 use crate::program::detect;
-use crate::report::{Answer, Compiled, refuse};
-use real::fill;
-use tape::{Checked, Header, check_tape};
+use crate::refusal::Refusal;
+use crate::report::Report;
+use tape::{Contents, Header, check_tape};
 
-pub fn clear_floats(w: &mut [f64])
-    ensures { w.new ≡ filled (length w.old) f0 w.old }
+// The operations of the first m records, if they are wanted.
+fn emit(wanted: bool, w: &[f64], u: &[u32], m: usize, n: usize, ops: &mut [f64])
+    requires held { Held w.now u.now m n × (wanted ≡ true → Kept w.now u.now m) }
+    requires m_in_bounds { wanted ≡ true → length (all_places (operations_in w.now u.now m)) ≤ length ops.old }
+    ensures { ops.new ≡ cond wanted (written (operations_in w.now u.now m) ops.old) ops.old }
 {
-    let n = w.len();
-    fill(w, n, 0.0);
-}
-
-pub fn clear_marks(u: &mut [u32])
-    ensures { u.new ≡ filled (length u.old) 0 u.old }
-{
-    let mut i = 0;
-    while i < u.len() {
-        u[i] = 0;
-        i += 1;
-    }
-}
-
-// The operations of the first m records, if no block is bad.
-fn emit(free: bool, w: &[f64], u: &[u32], m: usize, n: usize, ops: &mut [f64])
-    requires held { Held w.now u.now m n × (free ≡ true → Kept w.now u.now m) }
-    requires m_in_bounds { free ≡ true → length (all_places (operations_in w.now u.now m)) ≤ length ops.old }
-    ensures { ops.new ≡ cond free (written (operations_in w.now u.now m) ops.old) ops.old }
-{
-    if free {
+    if wanted {
         emit_all(w, u, m, n, ops);
     }
 }
 
-// Report, question 10, operations: what is lent is exactly the work of g gates and n qubits, and is zero afterwards.
-fn compile_in(
+// Report, judgement, operations: what is lent is exactly the work of the tape's gates and qubits, and is zero afterwards.
+fn compile_in<J: FnOnce(Header, Report) -> Result<(), Refusal>>(
     tape: &[u8],
-    h: Header,
-    g: usize,
+    c: Contents,
     w: &mut [f64],
     u: &mut [u32],
     ops: &mut [f64],
-) -> Compiled
-    requires { Lent tape.now h g w.old u.old }
-    ensures answer { result ≡ answer_of (ten_asked tape.now h ops.old) }
+    judge: J,
+) -> Result<Report, Refusal>
+    requires lent { Lent tape.now c.header c.gates w.old u.old }
+    requires callable { (r : Report) → J.pre judge c.header r }
+    requires room { (r : Report) → J.post judge c.header r (Ok tt) → op_places * r.operations ≤ length ops.old }
+    ensures answer { (x : Asked) → JudgedAs (J.post judge) c.header (content_of (parse tape.now)) x
+        → (told result ≡ answer_of x) × (ops.new ≡ ops_after x ops.old) × AfterNine x c.header (content_of (parse tape.now)) }
     ensures work { w.new ≡ filled (length w.old) f0 w.old }
     ensures marks { u.new ≡ filled (length u.old) 0 u.old }
-    ensures ops { ops.new ≡ ops_after (ten_asked tape.now h ops.old) ops.old }
 {
-    let r = detect(tape, h, g, w, u);
-    let room = ops.len();
-    if room < OP_PLACES * (r.operations as usize) {
-        clear_floats(w);
-        clear_marks(u);
-        return refuse(10, 0);
-    }
-    let n = h.n;
-    emit(r.free, w, u, g + n, n, ops);
-    clear_floats(w);
-    clear_marks(u);
-    Compiled {
-        answer: Answer::Done,
-        report: r,
-    }
+    let r = detect(tape, c, w, u);
+    let judged = judge(c.header, r);
+    let wanted = judged.is_ok() & r.free;
+    emit(wanted, w, u, c.gates + c.header.n, c.header.n, ops);
+    w.fill(0.0);
+    u.fill(0);
+    judged?;
+    Ok(r)
 }
 
-// Question 9, for a tape that passes 1 to 8: only the work that it names is lent on.
-fn compile_checked(
+// The questions 1 to 9 and then those that the judge asks of the header and the report; if none has no for an answer, the operations. `work` and `marks`
+// are lent to work in: from question 9 on the places that it names are zero afterwards, whatever the answer. A refusal leaves the operations alone.
+pub fn compile_judged<J: FnOnce(Header, Report) -> Result<(), Refusal>>(
     tape: &[u8],
-    h: Header,
-    g: usize,
     work: &mut [f64],
     marks: &mut [u32],
     ops: &mut [f64],
-) -> Compiled
-    requires { Read tape.now h g }
-    ensures answer { result ≡ answer_of (nine_asked tape.now h g work.old marks.old ops.old) }
-    ensures work { work.new
-        ≡ work_after work_floats f0 (nine_asked tape.now h g work.old marks.old ops.old) work.old }
-    ensures marks { marks.new
-        ≡ work_after work_marks 0 (nine_asked tape.now h g work.old marks.old ops.old) marks.old }
-    ensures ops { ops.new
-        ≡ ops_after (nine_asked tape.now h g work.old marks.old ops.old) ops.old }
+    judge: J,
+) -> Result<Report, Refusal>
+    requires callable { (h : Header) (r : Report) → h.n ≤ max_qubits → J.pre judge h r }
+    requires room { (h : Header) (r : Report) → J.post judge h r (Ok tt) → op_places * r.operations ≤ length ops.old }
+    ensures { (next : Header → Content → Asked) → Judges (J.post judge) next
+        → Leaves (asked_from next (parse tape.now) (length work.old) (length marks.old)) (told result) work.old work.new marks.old marks.new ops.old ops.new }
 {
-    let r = lend(g, h.n, work.len(), marks.len());
-    match r {
-        Lending::Short => refuse(9, 0),
-        Lending::Parts {
-            floats,
-            marks: numbers,
-        } => compile_in(
-            tape,
-            h,
-            g,
-            &mut work[0..floats],
-            &mut marks[0..numbers],
-            ops,
-        ),
+    let c = check_tape(tape)?;
+    let parts = lend(c.gates, c.header.n, work.len(), marks.len())?;
+    compile_in(
+        tape,
+        c,
+        &mut work[..parts.floats],
+        &mut marks[..parts.marks],
+        ops,
+        judge,
+    )
+}
+
+// Question 10: there are places for the operations.
+fn has_room(room: usize, r: Report) -> Result<(), Refusal>
+    ensures { result ≡ ten_of room r.operations }
+{
+    if room < OP_PLACES * (r.operations as usize) {
+        return Err(Refusal::SmallOperations);
     }
+    Ok(())
 }
 
 // The report and the operations of a tape. `work` and `marks` are lent to work in: from question 9 on the places that it names are zero afterwards,
 // whatever the answer. A refusal leaves the operations alone; blocks that are bad are reported, not refused.
-pub fn compile(tape: &[u8], work: &mut [f64], marks: &mut [u32], ops: &mut [f64]) -> Compiled
-    ensures answer { result ≡ compiled tape.now work.old marks.old ops.old }
+pub fn compile(
+    tape: &[u8],
+    work: &mut [f64],
+    marks: &mut [u32],
+    ops: &mut [f64],
+) -> Result<Report, Refusal>
+    ensures answer { told result ≡ compiled tape.now work.old marks.old ops.old }
     ensures work { work.new ≡ compiled_work tape.now work.old marks.old ops.old }
     ensures marks { marks.new ≡ compiled_marks tape.now work.old marks.old ops.old }
     ensures ops { ops.new ≡ compiled_ops tape.now work.old marks.old ops.old }
 {
-    let c = check_tape(tape);
-    match c {
-        Checked::Refused { number, place } => refuse(number, place),
-        Checked::Good {
-            header,
-            gates,
-            labels: _,
-        } => compile_checked(tape, header, gates, work, marks, ops),
-    }
+    let room = ops.len();
+    compile_judged(tape, work, marks, ops, |_, r| has_room(room, r))
 }

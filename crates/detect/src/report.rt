@@ -1,11 +1,12 @@
-// The report and the answer.
+// The report.
 ghost use Rattle.std.specs.Prelude.{◌≡◌};
 ghost use Rattle.detect.specs.Report.{fraction_of, written_count, exact_of, report_of};
-ghost use Rattle.detect.specs.Questions.{refusal};
 
 use crate::count::Counts;
+use crate::tables::Tables;
 use laws::MAX_QUBITS;
 use order::Ordering;
+use resolve::Tally;
 
 // What the detector found. The tables have an entry for each qubit that there can be, and the first n count: the wire on each mode, whether a path
 // starts there, the mode of each qubit.
@@ -32,20 +33,8 @@ pub struct Report {
     pub modes: [u16; MAX_QUBITS],
 }
 
-#[derive(Clone, Copy)]
-pub enum Answer {
-    Done,
-    Refused { number: u32, place: usize },
-}
-
-// The numbers of a refusal's report are zero.
-#[derive(Clone, Copy)]
-pub struct Compiled {
-    pub answer: Answer,
-    pub report: Report,
-}
-
 // The part of the blocks that is Gaussian.
+#[tactic(auto, using(std::proofs::lemmas::Bool::Decides::nat_tests), unfolding(crate::specs::Report::fraction_of))]
 fn fraction(c: Counts) -> f64
     ensures { result ≡ fraction_of c }
 {
@@ -56,39 +45,26 @@ fn fraction(c: Counts) -> f64
 }
 
 // The operations that are written: none where a block is bad.
+#[tactic(auto, using(std::proofs::lemmas::Bool::Decides::nat_tests))]
 fn written(c: Counts) -> u32
     ensures { result ≡ written_count c }
 {
-    if c.bad == 0 {
-        return c.operations;
-    }
-    0
+    if c.bad == 0 { c.operations } else { 0 }
 }
 
+#[tactic(auto, using(std::proofs::lemmas::Bool::Decides::nat_tests))]
 fn exact(c: Counts) -> bool
     ensures { result ≡ exact_of c }
 {
-    if c.bad == 0 {
-        return c.interactions == 0;
-    }
-    false
+    c.bad == 0 && c.interactions == 0
 }
 
-pub fn report_of(
-    n: usize,
-    c: Counts,
-    swaps: usize,
-    angled: bool,
-    ordering: Ordering,
-    order: [u16; MAX_QUBITS],
-    starts: [u16; MAX_QUBITS],
-    modes: [u16; MAX_QUBITS],
-) -> Report
-    ensures { result ≡ report_of n c swaps angled ordering order starts modes }
+pub fn report_of(n: usize, c: Counts, fused: Tally, ordering: Ordering, tables: Tables) -> Report
+    ensures { result ≡ report_of n c fused.swaps fused.angled ordering tables.order tables.starts tables.modes }
 {
-    let fraction = fraction(c);
-    let operations = written(c);
-    let exact = exact(c);
+    let order = tables.order;
+    let starts = tables.starts;
+    let modes = tables.modes;
     Report {
         n,
         blocks: c.blocks,
@@ -97,14 +73,14 @@ pub fn report_of(
         bad: c.bad,
         nonadjacent: c.nonadjacent,
         interactions: c.interactions,
-        swaps,
-        operations,
-        fraction,
+        swaps: fused.swaps,
+        operations: written(c),
+        fraction: fraction(c),
         residual: c.residual,
         conserving: c.conserving,
-        exact,
+        exact: exact(c),
         free: c.bad == 0,
-        angled,
+        angled: fused.angled,
         ordering,
         order,
         starts,
@@ -112,35 +88,25 @@ pub fn report_of(
     }
 }
 
-pub fn refuse(number: u32, place: usize) -> Compiled
-    ensures { result ≡ refusal number place }
-{
-    let order = [0; MAX_QUBITS];
-    let starts = [0; MAX_QUBITS];
-    let modes = [0; MAX_QUBITS];
-    let report = Report {
-        n: 0,
-        blocks: 0,
-        two: 0,
-        gaussian: 0,
-        bad: 0,
-        nonadjacent: 0,
-        interactions: 0,
-        swaps: 0,
-        operations: 0,
-        fraction: 0.0,
-        residual: 0.0,
-        conserving: false,
-        exact: false,
-        free: false,
-        angled: false,
-        ordering: Ordering::Identity,
-        order,
-        starts,
-        modes,
-    };
-    Compiled {
-        answer: Answer::Refused { number, place },
-        report,
-    }
-}
+// The numbers of a refusal's report are zero.
+pub const NO_REPORT: Report = Report {
+    n: 0,
+    blocks: 0,
+    two: 0,
+    gaussian: 0,
+    bad: 0,
+    nonadjacent: 0,
+    interactions: 0,
+    swaps: 0,
+    operations: 0,
+    fraction: 0.0,
+    residual: 0.0,
+    conserving: false,
+    exact: false,
+    free: false,
+    angled: false,
+    ordering: Ordering::Identity,
+    order: [0; MAX_QUBITS],
+    starts: [0; MAX_QUBITS],
+    modes: [0; MAX_QUBITS],
+};

@@ -10,9 +10,8 @@ use lib.Ieee.{Float}
 use Rattle.laws.specs.Bounds.{max_qubits}
 use Rattle.laws.specs.Tables.{mode_at}
 use Rattle.laws.proofs.Stores.{row-own, row_first}
+use Rattle.detect.specs.Answers.{Compiled, number_of}
 use Rattle.detect.specs.declared.report.Report.{Report}
-use Rattle.detect.specs.declared.report.Compiled.{Compiled}
-use Rattle.detect.specs.Questions.{number_of}
 use Rattle.detect.specs.Words.{word_count, table_count, report_words}
 use Rattle.order.proofs.Covers.{never}
 use Rattle.register.specs.Register.{register_bits}

@@ -1,22 +1,22 @@
--- Entries laid into a slice one after the other: one more, and the length. Assumes nothing.
-use mathlib.Core.Path.{◌≡◌, ap, ◌∙◌}
+-- Entries laid into a slice one after the other: their copy at once, and the length. Assumes nothing.
+use mathlib.Core.Path.{◌≡◌, sym, ap, ◌∙◌}
 use mathlib.Core.List.{List}
-use Prim.Native.Nat.{ℕ, ◌+◌, ◌≤◌}
-use native.Mathlib.Nat.{le_antisymm}
-use native.Mathlib.Numerals.{add-one}
+use Prim.Native.Nat.{ℕ, zero, suc, ◌+◌, ◌≤◌}
+use native.Mathlib.Omega.{arith}
 use lib.ListN.{length, get_or, set}
-use Rattle.laws.proofs.Stores.{length-stores, stores-more}
+use lib.Seq.{paste, paste-zero, paste-suc}
+use Rattle.laws.specs.Slices.{stores}
+use Rattle.laws.proofs.Stores.{length-stores}
 use Rattle.engine.specs.Reports.{laid}
 
 module _ (a : ℕ) (x l m : List ℕ) where
   pub laid-long : (k : ℕ) → m ≡ laid k a x l → length m ≡ length l
   laid-long k e = ap length e ∙ length-stores (λ i. a + i) (λ i. get_or x i 0) l k
 
-  -- entry k, at a place i that the code writes in its own way
-  pub laid_more : (k i : ℕ) → i ≡ a + k → m ≡ laid k a x l → set m i (get_or x k 0) ≡ laid (k + 1) a x l
-  laid_more k i p e =
-      rw (add-one k)
-      (stores-more (λ i. a + i) (λ i. get_or x i 0) l k m (set m i (get_or x k 0)) e (ap (λ i. set m i (get_or x k 0)) p))
-
-  pub laid-all : (k n : ℕ) → k ≤ n → n ≤ k → m ≡ laid k a x l → m ≡ laid n a x l
-  laid-all k n h g e = e ∙ ap (λ k. laid k a x l) (le_antisymm h g)
+-- the copy of the first k entries
+pub laid_pasted : (a : ℕ) (x l : List ℕ) (k : ℕ) → a + k ≤ length l → k ≤ length x → paste l a x k ≡ laid k a x l
+unfolding stores
+laid_pasted a x l zero room long = sym (paste-zero l a x)
+laid_pasted a x l (suc k) room long =
+    sym (paste-suc l a x k 0 (omega (arith, room)) (omega (arith, long)))
+    ∙ ap (λ m. set m (a + k) (get_or x k 0)) (laid_pasted a x l k (omega (arith, room)) (omega (arith, long)))

@@ -10,8 +10,7 @@ use borrow.Author.Tests.{leb-true}
 use Rattle.laws.specs.Bounds.{max_qubits}
 use Rattle.laws.proofs.Tests.{and_left, and_right}
 use Rattle.state.specs.Answers.{Told}
-use Rattle.detect.specs.declared.report.Compiled.{Compiled}
-use Rattle.detect.specs.Questions.{number_of, place_of}
+use Rattle.detect.specs.Answers.{Compiled, number_of, place_of}
 use Rattle.detect.specs.Words.{word_count, measure_count, table_count}
 use Rattle.engine.specs.Answers.{no_room, has_places, Tells}
 use Rattle.engine.specs.Reports.{words_written, measures_written, tables_written, has_report, room_of, Reports}

@@ -3,9 +3,8 @@
 use Rattle.std.specs.Prelude.{◌≡◌, Bool, cond, ◌&&◌, List, ℕ, ◌*◌, leb, length, get_or, set, Float}
 use Rattle.laws.specs.Slices.{put_row}
 use Rattle.laws.specs.Bounds.{max_qubits}
+use Rattle.detect.specs.Answers.{Compiled, number_of, place_of}
 use Rattle.detect.specs.declared.report.Report.{Report}
-use Rattle.detect.specs.declared.report.Compiled.{Compiled}
-use Rattle.detect.specs.Questions.{number_of, place_of}
 use Rattle.detect.specs.Words.{word_count, measure_count, table_count, report_words}
 use Rattle.engine.specs.Answers.{no_room}
 

@@ -1,11 +1,11 @@
-// Calls on a state.
+// Calls on a state. Each export asks for room and then makes its call: C names each by itself, with slices of its own, and what they share is in said.rt.
 ghost use Rattle.std.specs.Prelude.{◌≡◌, cond, leb, length, set};
 ghost use Rattle.state.specs.Calls.{apply_answer, apply_state, expectation_z_of};
 ghost use Rattle.queries.specs.Calls.{expectation_z_product_of, expectation_z_product_work, z_correlation_of, z_correlation_work, marginal_probability_of, marginal_probability_work, probability_of, probability_work, sample_of, sample_work, sample_out};
 ghost use Rattle.engine.specs.Answers.{no_room, has_places, Tells};
 
 use crate::said::{NO_ROOM, has_places, tell};
-use state::{told_answer, told_applied};
+use state::Told;
 
 // The operation in `op` is applied to the state.
 #[unsafe(no_mangle)]
@@ -13,7 +13,7 @@ pub extern "C" fn jozkeral_apply(n: usize, state: &mut [f64], modes: &[u16], op:
     ensures number { result ≡ (apply_answer n state.old modes.now op.now).number }
     ensures state { state.new ≡ apply_state n state.old modes.now op.now }
 {
-    let t = told_applied(state::apply(n, state, modes, op));
+    let t = Told::from(state::apply(n, state, modes, op));
     t.number
 }
 
@@ -130,7 +130,7 @@ pub extern "C" fn jozkeral_probability(
     if answer.len() < 1 {
         return NO_ROOM;
     }
-    let t = told_answer(queries::probability(n, state, modes, low, high, work));
+    let t = Told::from(queries::probability(n, state, modes, low, high, work));
     answer[0] = t.value;
     t.number
 }
@@ -162,7 +162,7 @@ pub extern "C" fn jozkeral_sample(
     if place.len() < 1 {
         return NO_ROOM;
     }
-    let t = told_applied(queries::sample(n, state, modes, shots, draws, work, out));
+    let t = Told::from(queries::sample(n, state, modes, shots, draws, work, out));
     place[0] = t.place;
     t.number
 }

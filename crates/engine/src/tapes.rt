@@ -10,7 +10,7 @@ ghost use Rattle.engine.specs.Claims.{left_in, CallClaim};
 use crate::reports::{has_report, put_report};
 use crate::said::NO_ROOM;
 
-// Where the label `which` is on the tape, counted from 0: offset and length, both 0 if there is none.
+// Where the label `which` is on the tape, counted from 0: offset and length, both 0 if there is none, since C has no Option.
 #[unsafe(no_mangle)]
 pub extern "C" fn jozkeral_label(tape: &[u8], which: usize, found: &mut [u64]) -> u64
     ensures number { result ≡ cond (leb 2 (length found.old)) 0 no_room }

@@ -13,7 +13,8 @@ use Rattle.tape.specs.declared.header.Header.{Header}
 use Rattle.detect.specs.Operation.{written}
 use Rattle.detect.specs.Report.{free_of, report_of}
 use Rattle.detect.specs.Compile.{tape_counts, reported_of, program_of}
-use Rattle.detect.specs.Questions.{Asked, early, late, passed, number_of, done, answer_of, ops_after, has_work, asked_from}
+use Rattle.detect.specs.Answers.{number_of, done}
+use Rattle.detect.specs.Questions.{Asked, early, late, passed, answer_of, ops_after, has_work, asked_from}
 use Rattle.local.specs.State.{stored}
 use Rattle.state.specs.Bounds.{dim_of}
 use Rattle.evolve.specs.Evolve.{evolved}

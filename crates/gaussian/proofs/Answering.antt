@@ -1,97 +1,90 @@
--- What a run answers and leaves once the report is made, by the verdict: where that is yes, what is written is the program, and so is what is run; in any
--- case work is zero. Assumes nothing.
-use mathlib.Core.Path.{◌≡◌, refl, sym, ap, ap₂, ◌∙◌}
-use mathlib.Core.Bool.{Bool, true, false, cond}
+-- What a run answers and leaves: the verdict is what `asked_report` asks; after a yes the program is run, after a refusal the state is as it was.
+-- Assumes nothing.
+use mathlib.Core.Path.{◌≡◌, refl, sym, ap, subst, ◌∙◌}
+use mathlib.Core.Bool.{Bool, true, false, true≢false}
 use mathlib.Core.List.{List}
-use Prim.Native.Nat.{ℕ, ◌+◌, ◌*◌, ◌≤◌, ◌<◌}
+use Prim.Native.Nat.{ℕ, ◌*◌, ◌≤◌}
 use native.Mathlib.Omega.{arith}
-use lib.Dec.{ltb}
 use lib.ListN.{length}
 use lib.Ieee.{Float}
-use borrow.Author.Tests.{lt-ltb, le-ltb, eq-eqb}
-use Rattle.laws.specs.Slices.{filled}
+use borrow.Author.Tests.{lt-ltb}
+use Rattle.std.specs.Prelude.{Result, Ok, Err}
 use Rattle.laws.specs.Bounds.{op_places}
 use Rattle.tape.specs.Parse.{Content}
 use Rattle.tape.specs.declared.header.Header.{Header}
+use Rattle.detect.specs.declared.refusal.Refusal.{Refusal}
 use Rattle.detect.specs.declared.report.Report.{Report}
-use Rattle.detect.specs.Operation.{all_places, written}
-use Rattle.detect.specs.Emit.{operations_in}
+use Rattle.detect.specs.Answers.{Answer, number_of, refusal, done}
 use Rattle.detect.specs.Report.{report_of}
-use Rattle.detect.specs.Kept.{Kept}
-use Rattle.detect.specs.Compile.{tape_counts, reported_of, program_of}
-use Rattle.detect.specs.Questions.{late, passed, work_after}
-use Rattle.detect.specs.Program.{Detected}
-use Rattle.detect.proofs.Placing.{length-placed}
-use Rattle.detect.proofs.Answering.{reported-free, reported-operations, emits-fit, writes}
-use Rattle.detect.proofs.Checking.{taken}
+use Rattle.detect.specs.Compile.{reported_of, program_of}
+use Rattle.detect.specs.Questions.{Asked, early, late, passed, answer_of}
+use Rattle.detect.specs.Told.{Judged}
+use Rattle.detect.proofs.Answering.{reported-operations}
+use Rattle.local.specs.Bounds.{state_places}
 use Rattle.local.specs.State.{stored, vacuum}
 use Rattle.state.specs.Bounds.{dim_of}
-use Rattle.evolve.specs.Evolve.{evolved, evolved_in}
+use Rattle.evolve.specs.Evolve.{evolved_in}
 use Rattle.evolve.proofs.Evolving.{evolved-written}
-use Rattle.gaussian.specs.Run.{verdict_of, asked_report}
-use Rattle.gaussian.proofs.Verdicts.{Passes, verdict-passes}
+use Rattle.gaussian.specs.Run.{verdict_of, judged, asked_report, state_after, ran, ran_ops, ran_state}
+use Rattle.gaussian.specs.Told.{Says}
+use Rattle.gaussian.proofs.Verdicts.{verdict-passes}
+use Rattle.gaussian.proofs.Accepted.{Ran, run-says}
 
--- ---- by the verdict
+-- ---- the judge
 
-module _ (h : Header) (c : Content) (g : ℕ) (xs ys : List Float) (us vs : List ℕ) (r : Report) (d : Detected h c.gates g xs ys us vs r)
-    (o s q : ℕ) (e : q ≡ verdict_of h r r.operations o s) where
-  number : r.operations ≡ length (program_of h c.gates)
-  number = ap (λ r. r.operations) d.report ∙ reported-operations h c.gates
+judged-by : (verdict : ℕ) (v : Result Unit Refusal) (h : Header) (c : Content) → Says v verdict → Judged v h c (judged verdict h c)
+judged-by verdict (Ok _) h c e = rw e refl
+judged-by verdict (Err why) h c e = (rw (lt-ltb 0 verdict e.1, e.0) refl, e.2)
 
-  told : q ≡ verdict_of h (reported_of h c.gates) (length (program_of h c.gates)) o s
-  told = e ∙ ap₂ (λ r k. verdict_of h r k o s) d.report number
+pub verdict-judged : (h : Header) (c : Content) (o s : ℕ) (v : Result Unit Refusal)
+    → Says v (verdict_of h (reported_of h c.gates) (reported_of h c.gates).operations o s) → Judged v h c (asked_report o s h c)
+verdict-judged h c o s v e =
+    judged-by (verdict_of h (reported_of h c.gates) (length (program_of h c.gates)) o s) v h c
+    (subst (λ k. Says v (verdict_of h (reported_of h c.gates) k o s)) (reported-operations h c.gates) e)
 
-  pub told-no : 0 < q → asked_report o s h c ≡ late q h c
-  told-no l = rw (← told, lt-ltb 0 q l)
+-- a yes says that there is room for the operations
+pub verdict-room : (h : Header) (r : Report) (o s : ℕ) → Says (Ok tt) (verdict_of h r r.operations o s) → op_places * r.operations ≤ o
+verdict-room h r o s e = (verdict-passes h r r.operations o s e).operations
 
-  module _ (l : q ≤ 0) where
-    pub told-yes : asked_report o s h c ≡ passed h c
-    told-yes = rw (← told, le-ltb 0 q l)
+-- ---- a refusal
 
-    pub passes : Passes h r r.operations o s
-    passes = verdict-passes h r r.operations o s (sym e ∙ omega (arith, l))
+is_done : Answer → Bool
+is_done Answer.Done = true
+is_done (Answer.Refused number place) = false
 
-    none-bad : r.bad ≡ 0 → (reported_of h c.gates).bad ≡ 0
-    none-bad b = sym (ap (λ r. r.bad) d.report) ∙ b
+pub refused-state : (x : Asked) (number place : ℕ) (state : List Float) → refusal number place ≡ answer_of x → state ≡ state_after x state
+unfolding answer_of state_after is_done
+refused-state (early n p) number place state e = refl
+refused-state (late n h c) number place state e = refl
+refused-state (passed h c) number place state e = absurd (true≢false (sym (ap (λ c. is_done c.answer) e)))
 
-    free : r.free ≡ true
-    unfolding reported_of report_of
-    free = ap (λ r. r.free) d.report ∙ reported-free h c.gates ∙ eq-eqb (tape_counts h c.gates).bad 0 (none-bad passes.free)
+-- ---- a report
 
-    pub emits-room : length (all_places (operations_in ys vs (g + h.n))) ≤ o
-    emits-room = emits-fit h c.gates g xs ys us vs r d o passes.operations free
+module _ (t : List ℕ) (work : List Float) (marks : List ℕ) (ops state : List Float) (r : Report) (ops' : List Float)
+    (e : done r ≡ ran t work marks ops state) (w : ops' ≡ ran_ops t work marks ops state) where
+  run : Ran t work marks ops state
+  run = run-says t work marks ops state (sym (ap (λ c. number_of c.answer) e))
 
-    -- the operations of the matchgates are in their records
-    pub emits_kept : Kept ys vs (g + h.n)
-    emits_kept = d.kept free
+  is : r ≡ reported_of run.header run.content.gates
+  is = ap (λ c. c.report) (e ∙ run.report)
 
-    -- there is room for what is read back
-    pub runs-room : (ops ops' : List Float) → o ≡ length ops → ops' ≡ written (operations_in ys vs (g + h.n)) ops → op_places * r.operations ≤ length ops'
-    runs-room ops ops' k w =
-        let fits : 0 + length (all_places (operations_in ys vs (g + h.n))) ≤ length ops = omega (arith, emits-room, k) in
-        omega (arith, ap length w, length-placed 0 ops (all_places (operations_in ys vs (g + h.n))) fits, passes.operations, k)
+  qubits : r.n ≡ run.header.n
+  unfolding reported_of report_of
+  qubits = ap (λ r. r.n) is
 
-    -- the operations of the items are the program
-    pub program-written : (ops : List Float) → written (operations_in ys vs (g + h.n)) ops ≡ written (program_of h c.gates) ops
-    program-written ops = sym (taken r.free (written (operations_in ys vs (g + h.n)) ops) ops free) ∙ writes h c.gates g xs ys us vs r d ops
+  count : r.operations ≡ length (program_of run.header run.content.gates)
+  count = ap (λ r. r.operations) is ∙ reported-operations run.header run.content.gates
 
-    -- and the state is what it makes of the vacuum
-    pub program-run : (ops ops' state : List Float) → ops' ≡ written (operations_in ys vs (g + h.n)) ops
-        → stored (dim_of h.n) (evolved_in h.n r.operations ops' vacuum) state ≡ stored (dim_of h.n) (evolved h.n (program_of h c.gates)) state
-    program-run ops ops' state w =
-        ap (λ t. stored (dim_of h.n) t state)
-        (ap (λ l. evolved_in h.n r.operations l vacuum) (w ∙ program-written ops) ∙ evolved-written h.n r.operations (program_of h c.gates) ops number)
+  pub has_room : length ops' ≡ length ops → op_places * r.operations ≤ length ops'
+  has_room l = omega (arith, l, count, run.passes.rest.operations)
 
--- ---- work
+  pub has_state : state_places (dim_of r.n) ≤ length state
+  has_state = rw qubits run.passes.rest.state
 
-pub report-work : {A : Type 0} (k : ℕ → ℕ → ℕ) (v : A) (o s : ℕ) (h : Header) (c : Content) (l : List A)
-    → work_after k v (asked_report o s h c) l ≡ filled (k (length c.gates) h.n) v l
-unfolding work_after
-report-work k v o s h c l = by (ltb 0 verdict)
-  where
-    verdict : ℕ
-    verdict = verdict_of h (reported_of h c.gates) (length (program_of h c.gates)) o s
-
-    by : (b : Bool) → work_after k v (cond b (late verdict h c) (passed h c)) l ≡ filled (k (length c.gates) h.n) v l
-    by true = refl
-    by false = refl
+  pub state-ran : stored (dim_of r.n) (evolved_in r.n r.operations ops' vacuum) state ≡ ran_state t work marks ops state
+  state-ran =
+      ap (λ n. stored (dim_of n) (evolved_in n r.operations ops' vacuum) state) qubits
+      ∙ ap (λ s. stored (dim_of run.header.n) s state)
+      (ap (λ l. evolved_in run.header.n r.operations l vacuum) (w ∙ run.operations)
+      ∙ evolved-written run.header.n r.operations (program_of run.header run.content.gates) ops count)
+      ∙ sym run.final

@@ -8,10 +8,9 @@ use lib.Ieee.{Float}
 use borrow.Author.Tests.{eq-eqb}
 use Rattle.tape.specs.Parse.{Content}
 use Rattle.tape.specs.declared.header.Header.{Header}
-use Rattle.detect.specs.declared.report.Compiled.{Compiled}
+use Rattle.detect.specs.Answers.{Compiled, number_of}
 use Rattle.detect.specs.Report.{report_of}
 use Rattle.detect.specs.Compile.{tape_counts, reported_of, program_of}
-use Rattle.detect.specs.Questions.{number_of}
 use Rattle.register.specs.Register.{register_bits}
 use Rattle.claim.specs.Queries.{answer, answers, Begins, RightAnswers}
 use Rattle.claim.proofs.Answering.{tape-answers}

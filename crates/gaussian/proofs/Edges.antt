@@ -30,11 +30,10 @@ use Rattle.fuse.specs.Compress.{compressed}
 use Rattle.resolve.specs.Resolve.{resolved, with_rests, start_of}
 use Rattle.resolve.specs.Whole.{resolved_of, fuse_of}
 use Rattle.order.specs.declared.choice.Ordering.{Ordering}
+use Rattle.detect.specs.Answers.{Compiled, number_of}
 use Rattle.detect.specs.declared.report.Report.{Report}
-use Rattle.detect.specs.declared.report.Compiled.{Compiled}
 use Rattle.detect.specs.Report.{report_of}
 use Rattle.detect.specs.Compile.{labels_of, items_of, order_of, tape_counts, reported_of}
-use Rattle.detect.specs.Questions.{number_of}
 use Rattle.detect.proofs.Reports.{blocks-add, blocks-items, no_blocks as fraction-one}
 use Rattle.detect.proofs.Edges.{Reporting, edges}
 use Rattle.state.specs.Answers as Answers

@@ -9,11 +9,10 @@ use borrow.Author.Tests.{lt-ltb}
 use Rattle.tape.specs.Parse.{Content, accepted, parse, content_of}
 use Rattle.tape.specs.declared.header.Header.{Header}
 use Rattle.tape.specs.declared.gates.Gate.{Gate}
+use Rattle.detect.specs.Answers.{Compiled, number_of}
 use Rattle.detect.specs.declared.report.Report.{Report}
-use Rattle.detect.specs.declared.report.Compiled.{Compiled}
 use Rattle.detect.specs.Report.{report_of}
 use Rattle.detect.specs.Compile.{reported_of}
-use Rattle.detect.specs.Questions.{number_of}
 use Rattle.state.specs.Questions.{state_ok}
 use Rattle.state.specs.Calls.{expectation_z_of}
 use Rattle.state.specs.Answers.{Told}

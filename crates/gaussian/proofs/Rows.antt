@@ -14,13 +14,12 @@ use Rattle.laws.specs.Bounds.{op_places}
 use Rattle.tape.specs.Parse.{Content, accepted, parse}
 use Rattle.tape.specs.declared.header.Header.{Header}
 use Rattle.tape.specs.declared.gates.Gate.{Gate}
+use Rattle.detect.specs.Answers.{Answer, Compiled, refusal, done}
 use Rattle.detect.specs.declared.report.Report.{Report}
-use Rattle.detect.specs.declared.report.Answer.{Answer}
-use Rattle.detect.specs.declared.report.Compiled.{Compiled}
 use Rattle.detect.specs.Report.{free_of, report_of}
 use Rattle.detect.specs.Compile.{items_of, mode_of_wire, tape_counts, reported_of, program_of}
 use Rattle.work.specs.Sizes.{work_floats, work_marks}
-use Rattle.detect.specs.Questions.{refusal, done, answer_of, has_work, asked_from}
+use Rattle.detect.specs.Questions.{answer_of, has_work, asked_from}
 use Rattle.detect.proofs.Sums.{counts-add}
 use Rattle.detect.proofs.Reports.{operations-told}
 use Rattle.local.specs.Bounds.{state_places}

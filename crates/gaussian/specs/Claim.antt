@@ -8,8 +8,8 @@ use Rattle.tape.specs.Parse.{accepted, Content, parse}
 use Rattle.tape.specs.declared.header.Header.{Header}
 use Rattle.tape.specs.declared.gates.Gate.{Gate}
 use Rattle.detect.specs.Compile.{program_of}
-use Rattle.detect.specs.Questions.{number_of, has_work}
-use Rattle.detect.specs.declared.report.Compiled.{Compiled}
+use Rattle.detect.specs.Answers.{Compiled, number_of}
+use Rattle.detect.specs.Questions.{has_work}
 use Rattle.local.specs.Bounds.{state_places}
 use Rattle.state.specs.Bounds.{dim_of}
 use Rattle.register.specs.Register.{RegisterTape, PlainGate, register_bits}

@@ -2,13 +2,13 @@
 -- report, the operations, and the state that they make of the vacuum. Definitions only. A public promise rests on this.
 use Rattle.std.specs.Prelude.{Bool, not, cond, List, ℕ, ◌*◌, ◌/◌, ◌%◌, eqb, ltb, length, Float}
 use Rattle.gate.specs.Complex.{f0}
-use Rattle.tape.specs.Parse.{Content, parse, content_of}
+use Rattle.tape.specs.Parse.{Content, parse}
 use Rattle.tape.specs.declared.header.Header.{Header}
 use Rattle.detect.specs.declared.report.Report.{Report}
-use Rattle.detect.specs.declared.report.Compiled.{Compiled}
+use Rattle.detect.specs.Answers.{Compiled}
 use Rattle.detect.specs.Compile.{reported_of, program_of}
 use Rattle.work.specs.Sizes.{work_floats, work_marks}
-use Rattle.detect.specs.Questions.{Asked, early, late, passed, answer_of, work_after, ops_after, asked_nine, asked_from, ops_lack}
+use Rattle.detect.specs.Questions.{Asked, early, late, passed, answer_of, work_after, ops_after, asked_from, ops_lack}
 use Rattle.local.specs.Bounds.{state_places}
 use Rattle.local.specs.State.{stored}
 use Rattle.state.specs.Bounds.{dim_of}
@@ -66,14 +66,7 @@ state_after (passed h c) state = stored (dim_of h.n) (evolved h.n (program_of h 
 
 -- ---- of the tape's bytes and the lent slices
 
--- the questions from 10 on, from 9 on, and all
-abbrev pub report_asked : List ℕ → Header → List Float → List Float → Asked
-report_asked t h ops state = asked_report (length ops) (length state) h (content_of (parse t))
-
-abbrev pub work_asked : List ℕ → Header → ℕ → List Float → List ℕ → List Float → List Float → Asked
-work_asked t h g work marks ops state =
-    asked_nine (asked_report (length ops) (length state)) h (content_of (parse t)) g (length work) (length marks)
-
+-- all
 abbrev pub asked : List ℕ → List Float → List ℕ → List Float → List Float → Asked
 asked t work marks ops state = asked_from (asked_report (length ops) (length state)) (parse t) (length work) (length marks)
 

@@ -2,53 +2,50 @@
 ghost use Rattle.std.specs.Prelude.{◌≡◌, ◌≤◌};
 ghost use Rattle.laws.specs.Bounds.{max_qubits};
 ghost use Rattle.gaussian.specs.Run.{all_apart, interacts, verdict_of};
+ghost use Rattle.gaussian.specs.Told.{Says};
 
-use detect::{OP_PLACES, Report};
+use detect::{OP_PLACES, Refusal, Report};
 use tape::Header;
 
 // Bad blocks exist, and all are nonadjacent matchgates.
+#[tactic(auto, using(std::proofs::lemmas::Bool::Decides::nat_tests), unfolding(crate::specs::Run::all_apart))]
 fn all_apart(r: Report) -> bool
     ensures { result ≡ all_apart r }
 {
-    if r.bad == 0 {
-        return false;
-    }
-    r.nonadjacent == r.bad
+    r.bad != 0 && r.nonadjacent == r.bad
 }
 
-// Interactions exist, and flag bit 2 does not drop them.
+// Interactions exist, and the header does not drop them.
+#[tactic(auto, using(std::proofs::lemmas::Bool::Decides::nat_tests), unfolding(crate::specs::Run::interacts))]
 fn interacting(h: Header, r: Report) -> bool
     ensures { result ≡ interacts h r }
 {
-    if r.interactions == 0 {
-        return false;
-    }
-    h.flags / 4 % 2 != 1
+    r.interactions != 0 && !h.drops_interactions()
 }
 
-// The first of 10 to 15 whose answer is no, or 0. There are `ops` places for the operations, `state` for the state.
-pub fn verdict(h: Header, r: Report, ops: usize, state: usize) -> u32
+// The first of 10 to 15 whose answer is no. There are `ops` places for the operations, `state` for the state.
+pub fn verdict(h: Header, r: Report, ops: usize, state: usize) -> Result<(), Refusal>
     requires { h.n ≤ max_qubits }
-    ensures { result ≡ verdict_of h r r.operations ops state }
+    ensures { Says result (verdict_of h r r.operations ops state) }
 {
     let dim = 2 * h.n;
     if ops < OP_PLACES * (r.operations as usize) {
-        return 10;
+        return Err(Refusal::SmallOperations);
     }
     if all_apart(r) {
-        return 11;
+        return Err(Refusal::NoOrder);
     }
     if r.bad > 0 {
-        return 12;
+        return Err(Refusal::BadBlocks);
     }
     if interacting(h, r) {
-        return 13;
+        return Err(Refusal::Interactions);
     }
     if h.limit < (8 * (dim * dim)) as u64 {
-        return 14;
+        return Err(Refusal::OverLimit);
     }
     if state < dim * dim + dim {
-        return 15;
+        return Err(Refusal::SmallState);
     }
-    0
+    Ok(())
 }

@@ -2,7 +2,6 @@
 use mathlib.Core.Path.{◌≡◌, refl, sym, ap, ◌∙◌}
 use mathlib.Core.List.{List, ◌++◌}
 use Prim.Native.Nat.{◌+◌, ◌≤◌}
-use native.Mathlib.Nat.{le_antisymm}
 use native.Mathlib.Omega.{arith}
 use lib.ListN.{length}
 use Rattle.work.specs.Columns.{kind_column}
@@ -11,19 +10,18 @@ use Rattle.work.specs.Marks.{mark_at}
 use lib.Ieee.{Float}
 use Prim.Native.Nat.{ℕ, ◌<◌}
 use mathlib.Core.Bool.{true}
-use Rattle.detect.specs.Operation.{all_places, written}
+use Rattle.detect.specs.Operation.{all_places}
 use Rattle.detect.specs.Emit.{item_operations, operations_in}
 use Rattle.detect.specs.Records.{record_item, items_in, modes_in}
-use Rattle.detect.proofs.Items.{items-same, items-none, items-few, below_at}
+use Rattle.detect.proofs.Items.{item_some, item_none, items-same, items-none, items-few, below_at}
 use Rattle.detect.proofs.Placing.{put-none, next-room}
 use Rattle.detect.proofs.Emitting.{emitted, emitted-none, emitted-more, emitted-same, emitted-fits, turn-put, turn-number, turn-length}
 use Rattle.detect.proofs.emit.emit_all.Goals as goal
-use Rattle.detect.proofs.emit.emit_all.Goals.{then-is_item, else-is_item}
+use Rattle.detect.proofs.emit.emit_all.Goals.{in-Some, in_default}
 
 pub loop-i-init : goal.loop-i-init
 loop-i-init c =
     let a = c.args in (
-      omega arith,
       rw (emitted-none a.w.now a.u.now (modes_in a.u.now)) (put-none 0 a.ops.now),
       sym (ap length (items-none a.w.now a.u.now)),
       refl,
@@ -44,47 +42,29 @@ put_item-p-requires c =
     let h = c.requires.held.0 in
     let t = c.loop-i-test.true in
     let pos = modes_in a.u.now in
-    let is = rw c.mark.ensures at (sym c.is_item.ensures ∙ c.if-is_item.true) in
-    record { item_there = ((omega (arith, h.floats, t), omega (arith, h.marks, t), h.modes, below_at a.w.now a.u.now a.n a.m l.i h.below t is), c.requires.held.1 l.i t); i_in_bounds = rw l.invariant.2 (next-room 0 a.ops.now (emitted a.w.now a.u.now pos l.i) (item_operations pos (length (items_in a.w.now a.u.now l.i)) (record_item a.w.now a.u.now l.i)) (omega (arith, room a.w.now a.u.now a.ops.now a.m l.i c.requires.m_in_bounds t is)) l.ops l.p l.invariant.1) }
+    let kind = item_some _ _ (sym c.item_kind.ensures ∙ c.in-Some.is) in
+    let is = kind.1 in
+    record { kind = kind.0; item_there = ((omega (arith, h.floats, t), omega (arith, h.marks, t), h.modes, below_at a.w.now a.u.now a.n a.m l.i h.below t is), c.requires.held.1 l.i t); i_in_bounds = rw l.invariant.1 (next-room 0 a.ops.now (emitted a.w.now a.u.now pos l.i) (item_operations pos (length (items_in a.w.now a.u.now l.i)) (record_item a.w.now a.u.now l.i)) (omega (arith, room a.w.now a.u.now a.ops.now a.m l.i c.requires.m_in_bounds t is)) l.ops l.p l.invariant.0) }
 
 pub overflow_add-block : goal.overflow_add-block
 overflow_add-block c =
     let l = c.loop-i in
-    omega (arith, l.invariant.2, items-few c.args.w.now c.args.u.now l.i, l.invariant.0, c.requires.held.0.few)
+    omega (arith, l.invariant.1, items-few c.args.w.now c.args.u.now l.i, c.loop-i-test.true, c.requires.held.0.few)
 
 pub loop-i-preserved : goal.loop-i-preserved
 loop-i-preserved c =
     let l = c.loop-i in
     let a = c.args in
     let pos = modes_in a.u.now in
-    let more : l.i + 1 ≤ a.m = omega (arith, c.loop-i-test.true) in
-    elim c.if-is_item.branch [
-      | then-is_item w ↦
-          let is = rw c.mark.ensures at (sym c.is_item.ensures ∙ w.if-is_item.true) in
+    elim c.match-item_kind.branch [
+      | in-Some w ↦
+          let is = (item_some _ _ (sym c.item_kind.ensures ∙ w.in-Some.is)).1 in
           let fits = room a.w.now a.u.now a.ops.now a.m l.i c.requires.m_in_bounds c.loop-i-test.true is in
-          let all = turn-put a.w.now a.u.now pos l.i l.p w.put_item-p.result l.block a.ops.now l.ops w.put_item-p.new.ops is l.invariant.1 l.invariant.2 w.put_item-p.ensures fits in
-          let number = turn-number a.w.now a.u.now pos l.i l.p w.put_item-p.result l.block a.ops.now l.ops w.put_item-p.new.ops is l.invariant.1 l.invariant.2 w.put_item-p.ensures fits in
-          let long = turn-length a.w.now a.u.now pos l.i l.p w.put_item-p.result l.block a.ops.now l.ops w.put_item-p.new.ops is l.invariant.1 l.invariant.2 w.put_item-p.ensures fits in
-          rw (w.ops-is, w.p-is, w.block-is) (more, all, number, long)
-      | else-is_item w ↦
-          let is = rw c.mark.ensures at (sym c.is_item.ensures ∙ w.if-is_item.false) in
-          rw (w.ops-is, w.p-is, w.block-is, emitted-same a.w.now a.u.now pos l.i is, items-same a.w.now a.u.now l.i is) (more, l.invariant.1, l.invariant.2, l.invariant.3)
+          let all = turn-put a.w.now a.u.now pos l.i l.p w.put_item-p.result l.block a.ops.now l.ops w.put_item-p.new.ops is l.invariant.0 l.invariant.1 w.put_item-p.ensures fits in
+          let number = turn-number a.w.now a.u.now pos l.i l.p w.put_item-p.result l.block a.ops.now l.ops w.put_item-p.new.ops is l.invariant.0 l.invariant.1 w.put_item-p.ensures fits in
+          let long = turn-length a.w.now a.u.now pos l.i l.p w.put_item-p.result l.block a.ops.now l.ops w.put_item-p.new.ops is l.invariant.0 l.invariant.1 w.put_item-p.ensures fits in
+          rw (w.ops-is, w.p-is, w.block-is) (all, number, long)
+      | in_default w ↦
+          let is = item_none _ (sym c.item_kind.ensures ∙ w.in_default.is) in
+          rw (w.ops-is, w.p-is, w.block-is, emitted-same a.w.now a.u.now pos l.i is, items-same a.w.now a.u.now l.i is) (l.invariant.0, l.invariant.1, l.invariant.2)
     ]
-
-pub returns : goal.returns
-returns c =
-    let l = c.loop-i in
-    let a = c.args in
-    l.invariant.1.is ∙ ap (λ i. written (emitted a.w.now a.u.now (modes_in a.u.now) i) a.ops.now) (le_antisymm l.invariant.0 c.loop-i-test.false)
-
-pub mark-requires : goal.mark-requires
-mark-requires c = omega (arith, c.loop-i-test.true, c.requires.held.0.marks)
-
-pub overflow_add-i : goal.overflow_add-i
-overflow_add-i c = omega (arith, c.loop-i-test.true, c.requires.held.0.few)
-
-pub loop-i-smaller : goal.loop-i-smaller
-loop-i-smaller c = omega (arith, c.loop-i-test.true)
-
-pub shape_of-ops : goal.shape_of-ops
-shape_of-ops c = c.loop-i.invariant.3

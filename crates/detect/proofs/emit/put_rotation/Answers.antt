@@ -7,14 +7,14 @@ use Rattle.detect.proofs.emit.put_rotation.Goals as goal
 
 pub put-requires : goal.put-requires
 put-requires c =
-    (omega (arith, c.requires, by-long c.args.k c.args.x c.in-By.is), ap length c.one_places.ensures)
+    (omega (arith, c.requires, by-long c.args.k c.args.x c.in-Some.is), ap length c.one_places.ensures)
 
-pub returns-in-By : goal.returns-in-By
-returns-in-By c =
+pub returns-in-Some : goal.returns-in-Some
+returns-in-Some c =
     let a = c.args in
-    put-by a.k a.x c.in-By.is a.p a.ops.now c.put.new.l c.one_places.result c.one_places.ensures c.put.ensures
+    put-by a.k a.x c.in-Some.is a.p a.ops.now c.put.new.l c.one_places.result c.one_places.ensures c.put.ensures
 
-pub returns-in-Nothing : goal.returns-in-Nothing
-returns-in-Nothing c =
+pub returns-in-None : goal.returns-in-None
+returns-in-None c =
     let a = c.args in
-    put-nothing a.k a.x a.p a.ops.now c.in-Nothing.is
+    put-nothing a.k a.x a.p a.ops.now c.in-None.is

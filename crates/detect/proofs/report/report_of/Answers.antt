@@ -3,4 +3,4 @@ use Rattle.detect.proofs.report.report_of.Goals as goal
 
 pub returns : goal.returns
 unfolding report_of
-returns c = rw (c.exact-exact.ensures, c.written-operations.ensures, c.fraction-fraction.ensures)
+returns c = rw (c.exact.ensures, c.written.ensures, c.fraction.ensures)

@@ -26,5 +26,5 @@ put_tables-requires c =
 pub returns : goal.returns
 unfolding words_written measures_written
 returns c =
-    rw (c.answer_number.ensures, c.put_tables.ensures, c.put_words.ensures, c.report_words.ensures, c.answer_place.ensures)
+    rw (c.put_tables.ensures, c.put_words.ensures, c.report_words.ensures, c.from-t.ensures)
     (reports-all _ _ _ _ _ c.requires)

@@ -1,35 +1,15 @@
--- `engine::reports::put_table` meets its contract: after k turns k entries are laid. Assumes nothing.
-use mathlib.Core.Path.{refl}
+-- `engine::reports::put_table` meets its contract: the copy at once is that of each entry. Assumes nothing.
+use mathlib.Core.Path.{◌≡◌, sym, ◌∙◌}
 use native.Mathlib.Omega.{arith}
-use Rattle.laws.specs.Slices.{stores}
+use lib.ListN.{length}
+use Rattle.std.proofs.Common.{rules}
+use Rattle.std.proofs.lemmas.Slice.{put_mid-paste}
 use Rattle.laws.specs.Bounds.{max_qubits}
-use Rattle.engine.proofs.Laid.{laid-long, laid_more, laid-all}
+use Rattle.engine.proofs.Laid.{laid_pasted}
 use Rattle.engine.proofs.reports.put_table.Goals as goal
-
-pub loop-k-init : goal.loop-k-init
-unfolding stores
-loop-k-init c = (omega arith, refl)
-
-pub bounds-out-a : goal.bounds-out-a
-bounds-out-a c =
-    let l = c.loop-k in
-    let a = c.args in
-    omega (arith, laid-long a.a a.x.now a.out.now l.out l.k l.invariant.1)
-
-pub loop-k-preserved : goal.loop-k-preserved
-loop-k-preserved c =
-    let l = c.loop-k in
-    let a = c.args in
-    (omega arith, laid_more a.a a.x.now a.out.now l.out l.k _ refl l.invariant.1)
-
-pub shape_of-out : goal.shape_of-out
-shape_of-out c =
-    let l = c.loop-k in
-    let a = c.args in
-    laid-long a.a a.x.now a.out.now l.out l.k l.invariant.1
 
 pub returns : goal.returns
 returns c =
-    let l = c.loop-k in
-    let a = c.args in
-    laid-all a.a a.x.now a.out.now l.out l.k max_qubits l.invariant.0 c.loop-k-test.false l.invariant.1
+    let long : length c.args.x.now ≡ max_qubits = search rules in
+    put_mid-paste c.args.a _ c.args.out.now _ c.args.x.now max_qubits c.copy_from_slice.ensures.after (omega arith) (sym long)
+    ∙ laid_pasted c.args.a c.args.x.now c.args.out.now max_qubits c.requires (omega (arith, long))

@@ -9,4 +9,4 @@ pub bounds-answer-0 : goal.bounds-answer-0
 bounds-answer-0 c = value_there _ _ c.requires
 
 pub returns : goal.returns
-returns c = rw c.told_answer-t.ensures (tells_all _ _ _ c.requires)
+returns c = rw c.from-t.ensures (tells_all _ _ _ c.requires)

@@ -4,4 +4,4 @@ use Rattle.engine.proofs.states.jozkeral_apply.Goals as goal
 pub returns : goal.returns
 returns c =
     let q = c.apply.ensures in
-    record { number = rw (c.told_applied-t.ensures, q.answer); state = q.state }
+    record { number = rw (c.from-t.ensures, q.answer); state = q.state }

@@ -11,4 +11,4 @@ pub returns : goal.returns
 returns c =
     let room = le-leb 1 _ c.if-answer-lt1.false in
     let q = c.probability.ensures in
-    record { number = rw (room, c.told_answer-t.ensures, q.answer); answer = rw (room, c.told_answer-t.ensures, q.answer); work = rw room q.work }
+    record { number = rw (room, c.from-t.ensures, q.answer); answer = rw (room, c.from-t.ensures, q.answer); work = rw room q.work }

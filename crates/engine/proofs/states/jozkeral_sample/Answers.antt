@@ -11,4 +11,4 @@ pub returns : goal.returns
 returns c =
     let room = le-leb 1 _ c.if-place-lt1.false in
     let q = c.sample.ensures in
-    record { number = rw (room, c.told_applied-t.ensures, q.answer); place = rw (room, c.told_applied-t.ensures, q.answer); work = rw room q.work; out = rw room q.out }
+    record { number = rw (room, c.from-t.ensures, q.answer); place = rw (room, c.from-t.ensures, q.answer); work = rw room q.work; out = rw room q.out }
