@@ -24,6 +24,7 @@ pub fn read_full<R: Read>(reader: &mut R, space: &mut [u8]) -> io::Result<usize>
     ensures end { IfOk result (λ n. n < length space.new → IsAtEnd (R.remaining reader.new)) }
 {
     let mut done = 0;
+    // Each turn goes on by as many bytes as a read gave, so this is no walk over indices.
     while done < space.len() {
         let n = reader.read(&mut space[done..])?;
         if n == 0 {

@@ -1,5 +1,5 @@
 -- Decimal numbers: the last digit and those before it, and how many there are. Assumes nothing.
-use mathlib.Core.Path.{◌≡◌, refl, ap}
+use mathlib.Core.Path.{◌≡◌, refl, sym, ap, ◌∙◌}
 use mathlib.Core.Logic.{⊎_elim}
 use mathlib.Core.Bool.{Bool, true, false}
 use mathlib.Core.List.{[], ◌∷◌, ◌++◌}
@@ -10,6 +10,8 @@ use lib.Dec.{ltb}
 use lib.ListN.{length, length-append}
 use borrow.Author.Tests.{ltb-false, lt-ltb, le-ltb}
 use Rattle.laws.proofs.Cases.{lt-or-le}
+use Rattle.std.specs.Fmt as written
+use Rattle.std.proofs.lemmas.Fmt.{decimal_by_steps}
 use Rattle.text.specs.Ascii.{digit, digits_of, decimal}
 
 -- ---- the digits
@@ -49,3 +51,9 @@ long-most (suc k) n h =
     (λ a. omega (arith, long-last n a))
     (λ a. omega (arith, long-more n a, long-most k (n / 10) (omega (arith, pow-suc 10 (suc k)))))
     (lt-or-le n 10)
+
+-- ---- they are the digits that std writes
+
+pub decimal_is : (n : ℕ) → n < 2 ^ 64 → written.decimal n ≡ decimal n
+decimal_is n h =
+    sym (decimal_by_steps (λ n ds. decimal n ≡ ds) decimal-last (λ n ds l e. decimal-more n l ∙ ap (λ ds. ds ++ (digit (n % 10) ∷ [])) e) n h)

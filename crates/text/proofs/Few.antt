@@ -20,7 +20,7 @@ use Rattle.fuse.specs.Fuse.{joined, place, fuse_step, fused}
 use Rattle.fuse.specs.Compress.{diagonal2_of, press, compress_step, compressed}
 use Rattle.resolve.specs.Items.{Item}
 use Rattle.resolve.specs.Resolve.{Rest, none, rest, Resolved, lengthened, promised, emptied, renamed, added, item_of, candidates, chosen, resolve_step, resolved, rest_item, with_rests, start_of}
-use Rattle.resolve.specs.declared.choose.Choice.{Choice}
+use Rattle.resolve.specs.Choose.{Choice}
 use Rattle.resolve.specs.Whole.{resolved_of, fuse_of}
 use Rattle.detect.specs.Report.{free_of, report_of}
 use Rattle.detect.specs.Compile.{relabels_of, labels_of, items_of, mode_of_wire, tape_counts, reported_of}

@@ -1,11 +1,13 @@
 -- How long the lines are at most. Assumes nothing.
-use mathlib.Core.Path.{◌≡◌, refl}
+use mathlib.Core.Path.{◌≡◌, refl, ap, ap₂}
 use mathlib.Core.Bool.{Bool, true, false, cond}
 use mathlib.Core.List.{List, ◌++◌}
-use Prim.Native.Nat.{ℕ, ◌*◌, ◌^◌, ◌≤◌, ◌<◌}
+use Prim.Native.Nat.{ℕ, zero, suc, ◌*◌, ◌^◌, ◌≤◌, ◌<◌}
 use native.Mathlib.Omega.{arith}
 use lib.Dec.{eqb}
-use lib.ListN.{length, get_or, length-append}
+use lib.ListN.{length, get_or, take, length-append}
+use lib.Seq.{length-take-le}
+use Rattle.std.proofs.lemmas.List.{get_or-take}
 use lib.Ieee.{Float, lt}
 use Rattle.laws.specs.Zeros.{+0}
 use Rattle.order.specs.declared.choice.Ordering.{Ordering}
@@ -13,7 +15,7 @@ use Rattle.order.specs.declared.choice.Ordering.TheVariants.{Identity, Paths, Gr
 use Rattle.text.specs.Bounds.{printed_qubits, max_order_line, max_z_lines}
 use Rattle.text.specs.Ascii.{ascii, decimal}
 use Rattle.text.specs.Millionths.{million, millionths, in_range, signed, z_text}
-use Rattle.text.specs.Lines.{field, name_of, report_line, order_line, z_line, z_lines, refused_line}
+use Rattle.text.specs.Lines.{line, pieces, field, name_of, order_line, z_line, z_lines}
 use Rattle.text.proofs.Decimals.{long-most}
 use Rattle.text.proofs.Values.{millionths-most}
 use Rattle.text.proofs.Pieces.{pieces-long}
@@ -46,10 +48,9 @@ z-lines-long z n h = omega (arith, pieces-long (λ q. z_line q (z q)) 12 n (λ q
 
 -- ---- the other lines
 
-pub report-long : (n b g x i : ℕ) → n < 10 ^ 10 → b < 10 ^ 10 → g < 10 ^ 10 → x < 10 ^ 10 → i < 10 ^ 10 → length (report_line n b g x i) ≤ 95
-unfolding report_line ascii
-report-long n b g x i hn hb hg hx hi =
-    simp length-append (omega (arith, long-most 9 n hn, long-most 9 b hb, long-most 9 g hg, long-most 9 x hx, long-most 9 i hi))
+-- a count
+pub short : (n : ℕ) → n < 2 ^ 32 → length (decimal n) ≤ 10
+short n h = long-most 9 n (omega arith)
 
 name-long : (o : Ordering) → length (name_of o) ≤ 8
 unfolding name_of ascii
@@ -64,6 +65,24 @@ order-long o order n h few =
     simp length-append
     (omega (arith, name-long o, pieces-long (λ k. field " " (get_or order k 0)) 6 n (λ k g. omega (arith, long-most 4 (get_or order k 0) (few k)))))
 
-pub refused-long : (r p : ℕ) → r < 10 ^ 10 → p < 10 ^ 20 → length (refused_line r p) ≤ 43
-unfolding refused_line ascii
-refused-long r p hr hp = simp length-append (omega (arith, long-most 9 r hr, long-most 19 p hp))
+-- a place
+pub place_short : (n : ℕ) → n < 2 ^ 64 → length (decimal n) ≤ 20
+place_short n h = long-most 19 n (omega arith)
+
+-- ---- the order line tells the first n wires
+
+module _ (f g : ℕ → List ℕ) where
+  same_pieces : (n : ℕ) → ((k : ℕ) → k < n → f k ≡ g k) → pieces f n ≡ pieces g n
+  unfolding pieces
+  same_pieces zero h = refl
+  same_pieces (suc n) h = ap₂ (λ a b. a ++ b) (same_pieces n (λ k l. h k (omega arith))) (h n (omega arith))
+
+pub order-front : (o : Ordering) (order front : List ℕ) (n : ℕ) → front ≡ take n order → n ≤ length order
+    → order_line o front (length front) ≡ order_line o order n
+unfolding order_line
+order-front o order front n e h =
+    let long : length front ≡ n = rw e (length-take-le n order h) in
+    rw long
+    (ap (λ w. line (ascii "order " ++ name_of o ++ w))
+    (same_pieces (λ k. field " " (get_or front k 0)) (λ k. field " " (get_or order k 0)) n
+    (λ k l. ap (λ i. field " " i) (rw e (get_or-take n order k 0 l)))))

@@ -1,7 +1,5 @@
 -- Laws on the definitions of `text`.
 pub mod Decimals
-pub mod Putting
-pub mod Spelling
 pub mod Pieces
 pub mod Rounding
 pub mod Values
@@ -10,3 +8,4 @@ pub mod Few
 pub mod Running
 pub mod Answered
 mod Examples
+mod Large

@@ -12,8 +12,8 @@ use Rattle.laws.specs.Zeros.{+0}
 use Rattle.laws.specs.Bounds.{op_places}
 use Rattle.tape.specs.Parse.{Parsed, Content, refused, accepted}
 use Rattle.tape.specs.declared.header.Header.{Header}
+use Rattle.detect.specs.Answers.{Done, Refused}
 use Rattle.detect.specs.declared.report.Report.{Report}
-use Rattle.detect.specs.declared.report.Answer.TheVariants.{Done, Refused}
 use Rattle.detect.specs.Report.{report_of, no_report}
 use Rattle.detect.specs.Compile.{reported_of, program_of}
 use Rattle.work.specs.Sizes.{record_floats, record_marks, work_floats, work_marks}

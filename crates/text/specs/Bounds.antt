@@ -12,7 +12,10 @@ printed_gates = 32
 abbrev pub printed_qubits : ℕ
 printed_qubits = 8
 
--- what is written at most, in bytes: line 2, the q lines, and a whole text
+-- what is written at most, in bytes: line 1, line 2, the q lines, and a whole text
+abbrev pub max_report_line : ℕ
+max_report_line = 95
+
 abbrev pub max_order_line : ℕ
 max_order_line = 63
 

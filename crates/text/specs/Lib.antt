@@ -2,6 +2,6 @@
 pub mod Bounds
 pub mod Ascii
 pub mod Millionths
-pub mod Put
+pub mod Room
 pub mod Lines
 pub mod Print

@@ -2,9 +2,10 @@
 
 #![tactic(auto)]
 
-mod words; // words and decimal numbers, into a lent slice
+mod words; // a text in the making: words and decimal numbers
 mod millionths; // Z in millionths
 mod lines; // the lines
 mod print; // the text of a tape
 
-pub use print::{MAX_TEXT, print_tape};
+pub use print::print_tape;
+pub use words::MAX_TEXT;

@@ -1,102 +1,89 @@
-// The lines of the text. Each function answers the place after what it wrote.
-ghost use Rattle.std.specs.Prelude.{◌+◌, ◌≤◌, ◌++◌, length};
-ghost use Rattle.text.specs.Bounds.{printed_qubits, max_order_line};
-ghost use Rattle.text.specs.Ascii.{decimal};
-ghost use Rattle.text.specs.Lines.{name_of, wires, report_line, order_line, z_line, refused_line, too_big_line};
-ghost use Rattle.text.specs.Put.{Put};
+// The lines of the text. A usize is cast to u64, since the library has none between them that cannot fail.
+ghost use Rattle.std.specs.Prelude.{◌≡◌, ◌+◌, ◌≤◌, ◌++◌, length};
+ghost use Rattle.text.specs.Bounds.{printed_qubits, max_report_line, max_order_line, max_text};
+ghost use Rattle.text.specs.Lines.{name_of, wires, report_line, order_line, z_line, refused_line};
+ghost use Rattle.text.specs.Room.{Room};
 
-use crate::millionths::put_z;
-use crate::words::{put, put_decimal};
+use crate::millionths::push_z;
+use crate::words::{Text, push_count, push_field};
+use detect::Report;
 use order::Ordering;
 
-// A word, and a number after it.
-fn put_field(word: &[u8], x: u64, out: &mut [u8], at: usize) -> usize
-    requires { at + length (word.now ++ decimal x) ≤ length out.old }
-    ensures { Put (word.now ++ decimal x) at out.old out.new result }
+#[tactic(auto, using(crate::proofs::Lengths::short), unfolding(crate::specs::Ascii::ascii))]
+pub fn push_report_line(text: &mut Text, r: &Report)
+    requires few { r.now.n ≤ printed_qubits }
+    requires room { length text.old.bytes + max_report_line ≤ max_text }
+    ensures line { text.new.bytes ≡ text.old.bytes
+        ++ report_line r.now.n r.now.blocks r.now.gaussian r.now.bad r.now.interactions }
+    ensures bound { length text.new.bytes ≤ length text.old.bytes + max_report_line }
 {
-    let next = put(word, out, at);
-    put_decimal(x, out, next)
+    push_field(text, "qubits ", r.n as u64);
+    push_count(text, " blocks ", r.blocks);
+    push_count(text, " gaussian ", r.gaussian);
+    push_count(text, " bad ", r.bad);
+    push_count(text, " interactions ", r.interactions);
+    text.push_str("\n");
 }
 
-pub fn put_report_line(
-    n: u64,
-    blocks: u64,
-    gaussian: u64,
-    bad: u64,
-    interactions: u64,
-    out: &mut [u8],
-    at: usize,
-) -> usize
-    requires { at + length (report_line n blocks gaussian bad interactions) ≤ length out.old }
-    ensures { Put (report_line n blocks gaussian bad interactions) at out.old out.new result }
+#[tactic(auto, unfolding(crate::specs::Ascii::ascii, crate::specs::Lines::name_of))]
+fn name(ordering: Ordering) -> &'static str
+    ensures { result.now ≡ name_of ordering }
 {
-    let a = put_field(b"qubits ", n, out, at);
-    let b = put_field(b" blocks ", blocks, out, a);
-    let c = put_field(b" gaussian ", gaussian, out, b);
-    let d = put_field(b" bad ", bad, out, c);
-    let e = put_field(b" interactions ", interactions, out, d);
-    put(b"\n", out, e)
-}
-
-fn put_name(o: Ordering, out: &mut [u8], at: usize) -> usize
-    requires { at + length (name_of o) ≤ length out.old }
-    ensures { Put (name_of o) at out.old out.new result }
-{
-    match o {
-        Ordering::Identity => put(b"identity", out, at),
-        Ordering::Paths => put(b"paths", out, at),
-        Ordering::Greedy => put(b"greedy", out, at),
+    match ordering {
+        Ordering::Identity => "identity",
+        Ordering::Paths => "paths",
+        Ordering::Greedy => "greedy",
     }
 }
 
-// The wires on the first n modes.
-fn put_wires(order: &[u16], n: usize, out: &mut [u8], at: usize) -> usize
-    requires n_in_bounds { n ≤ length order.now }
-    requires n_in_bounds_2 { at + length (wires order.now n) ≤ length out.old }
-    ensures { Put (wires order.now n) at out.old out.new result }
+// The wires by mode.
+fn push_wires(text: &mut Text, order: &[u16])
+    requires { Room text.old.bytes (wires order.now (length order.now)) }
+    ensures { text.new.bytes ≡ text.old.bytes ++ wires order.now (length order.now) }
 {
-    let mut next = at;
-    let mut k = 0;
-    while k < n {
-        next = put_field(b" ", num::wide_word(order[k]), out, next);
-        k += 1;
+    for wire in order {
+        push_field(text, " ", u64::from(*wire));
     }
-    next
 }
 
-pub fn put_order_line(o: Ordering, order: &[u16], n: usize, out: &mut [u8], at: usize) -> usize
-    requires { (n ≤ printed_qubits) × (n ≤ length order.now) × (at + max_order_line ≤ length out.old) }
-    ensures text { Put (order_line o order.now n) at out.old out.new result }
-    ensures bound { result ≤ at + max_order_line }
+#[tactic(auto, unfolding(crate::specs::Ascii::ascii, crate::specs::Lines::order_line))]
+fn push_ordering(text: &mut Text, ordering: Ordering, order: &[u16])
+    requires { Room text.old.bytes (order_line ordering order.now (length order.now)) }
+    ensures { text.new.bytes ≡ text.old.bytes ++ order_line ordering order.now (length order.now) }
 {
-    let a = put(b"order ", out, at);
-    let b = put_name(o, out, a);
-    let c = put_wires(order, n, out, b);
-    put(b"\n", out, c)
+    text.push_str("order ");
+    text.push_str(name(ordering));
+    push_wires(text, order);
+    text.push_str("\n");
 }
 
-pub fn put_z_line(q: u64, x: f64, out: &mut [u8], at: usize) -> usize
-    requires { at + length (z_line q x) ≤ length out.old }
-    ensures { Put (z_line q x) at out.old out.new result }
+// The ordering, and the wires by mode.
+pub fn push_order_line(text: &mut Text, ordering: Ordering, order: &[u16])
+    requires few { length order.now ≤ printed_qubits }
+    requires room { length text.old.bytes + max_order_line ≤ max_text }
+    ensures line { text.new.bytes ≡ text.old.bytes ++ order_line ordering order.now (length order.now) }
+    ensures bound { length text.new.bytes ≤ length text.old.bytes + max_order_line }
 {
-    let a = put_field(b"q", q, out, at);
-    let b = put(b" ", out, a);
-    let c = put_z(x, out, b);
-    put(b"\n", out, c)
+    push_ordering(text, ordering, order);
 }
 
-pub fn put_refused(number: u64, place: u64, out: &mut [u8], at: usize) -> usize
-    requires { at + length (refused_line number place) ≤ length out.old }
-    ensures { Put (refused_line number place) at out.old out.new result }
+#[tactic(auto, unfolding(crate::specs::Ascii::ascii, crate::specs::Lines::z_line))]
+pub fn push_z_line(text: &mut Text, q: u64, x: f64)
+    requires { Room text.old.bytes (z_line q x) }
+    ensures { text.new.bytes ≡ text.old.bytes ++ z_line q x }
 {
-    let a = put_field(b"refused ", number, out, at);
-    let b = put_field(b" at ", place, out, a);
-    put(b"\n", out, b)
+    push_field(text, "q", q);
+    text.push_str(" ");
+    push_z(text, x);
+    text.push_str("\n");
 }
 
-pub fn put_too_big(out: &mut [u8], at: usize) -> usize
-    requires { at + length too_big_line ≤ length out.old }
-    ensures { Put too_big_line at out.old out.new result }
+#[tactic(auto, using(crate::proofs::Lengths::place_short), unfolding(crate::specs::Ascii::ascii, crate::specs::Lines::refused_line))]
+pub fn push_refused(text: &mut Text, number: u32, place: usize)
+    requires { length text.old.bytes + 43 ≤ max_text }
+    ensures { text.new.bytes ≡ text.old.bytes ++ refused_line number place }
 {
-    put(b"too big\n", out, at)
+    push_count(text, "refused ", number);
+    push_field(text, " at ", place as u64);
+    text.push_str("\n");
 }

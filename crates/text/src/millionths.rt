@@ -1,9 +1,9 @@
 // Z in millionths, exactly: from the float's bits, in whole numbers.
-ghost use Rattle.std.specs.Prelude.{◌≡◌, true, ◌+◌, ◌*◌, ◌^◌, ◌<◌, ◌≤◌, length};
-ghost use Rattle.text.specs.Millionths.{rounded, million, in_range, signed, z_text, millionths as Millionths·millionths};
-ghost use Rattle.text.specs.Put.{Put};
+ghost use Rattle.std.specs.Prelude.{◌≡◌, true, ◌++◌, ◌*◌, ◌^◌, ◌<◌, ◌≤◌};
+ghost use Rattle.text.specs.Millionths.{rounded, million, in_range, z_text, millionths as Millionths·millionths};
+ghost use Rattle.text.specs.Room.{Room};
 
-use crate::words::{put, put_decimal};
+use crate::words::{Text, push_decimal, push_field};
 use num::SIGN;
 
 const MILLION: u64 = 1000000;
@@ -26,13 +26,11 @@ fn nearest(m: u64, s: u64) -> u64
     ((a >> k) + 1) / 2
 }
 
+#[tactic(auto, unfolding(crate::specs::Millionths::in_range))]
 fn in_range(x: f64) -> bool
     ensures { result ≡ in_range x }
 {
-    if -2.0 < x {
-        return x < 2.0;
-    }
-    false
+    -2.0 < x && x < 2.0
 }
 
 // The magnitude of x in millionths, by its exponent's field and the digits below the leading one.
@@ -49,26 +47,19 @@ fn millionths(x: f64) -> u64
     nearest(TWO_52 + t, LOWEST + 1 - e)
 }
 
-fn put_signed(minus: bool, k: u64, out: &mut [u8], at: usize) -> usize
-    requires { at + length (signed minus k) ≤ length out.old }
-    ensures { Put (signed minus k) at out.old out.new result }
+#[tactic(auto, using(std::proofs::lemmas::Bool::Decides::nat_tests), unfolding(crate::specs::Ascii::ascii, crate::specs::Millionths::z_text, crate::specs::Millionths::signed))]
+pub fn push_z(text: &mut Text, x: f64)
+    requires { Room text.old.bytes (z_text x) }
+    ensures { text.new.bytes ≡ text.old.bytes ++ z_text x }
 {
-    if k == 0 {
-        return put_decimal(k, out, at);
+    if !in_range(x) {
+        text.push_str("out");
+        return;
     }
-    if minus {
-        let next = put(b"-", out, at);
-        return put_decimal(k, out, next);
+    let k = millionths(x);
+    if x < 0.0 && k > 0 {
+        push_field(text, "-", k);
+    } else {
+        push_decimal(text, k);
     }
-    put_decimal(k, out, at)
-}
-
-pub fn put_z(x: f64, out: &mut [u8], at: usize) -> usize
-    requires { at + length (z_text x) ≤ length out.old }
-    ensures { Put (z_text x) at out.old out.new result }
-{
-    if in_range(x) {
-        return put_signed(x < 0.0, millionths(x), out, at);
-    }
-    put(b"out", out, at)
 }

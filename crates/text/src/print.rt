@@ -1,16 +1,17 @@
 // The text of a tape.
-ghost use Rattle.std.specs.Prelude.{◌≡◌, ◌++◌, ◌+◌, ◌^◌, ◌<◌, ◌≤◌, length, drop};
-ghost use Rattle.text.specs.Bounds.{printed_qubits, max_order_line, max_z_lines, max_text};
-ghost use Rattle.text.specs.Lines.{order_line, z_lines};
+ghost use Rattle.std.specs.Prelude.{◌≡◌, false, ◌++◌, ◌+◌, ◌≤◌, [], length, drop};
+ghost use Rattle.text.specs.Bounds.{printed_qubits, max_z_lines, max_text};
+ghost use Rattle.text.specs.Lines.{z_lines};
 ghost use Rattle.text.specs.Print.{is_too_big, z_at, done_text, printed};
-ghost use Rattle.text.specs.Put.{Put, Counts};
+ghost use Rattle.text.specs.Room.{Counts};
 
-use crate::lines::{put_order_line, put_refused, put_report_line, put_too_big, put_z_line};
-use detect::{Answer, Report};
+use crate::lines::{push_order_line, push_refused, push_report_line, push_z_line};
+use crate::words::{MAX_TEXT, Text};
+use detect::Report;
 use gaussian::run;
 use laws::OP_PLACES;
 use state::expectation_z;
-use tape::{Checked, check_tape};
+use tape::check_tape;
 use work::{RECORD_FLOATS, RECORD_MARKS};
 
 const MAX_TAPE: usize = 60000;
@@ -18,9 +19,6 @@ const MAX_TAPE: usize = 60000;
 const PRINTED_GATES: usize = 32;
 
 const PRINTED_QUBITS: usize = 8;
-
-// No text is longer.
-pub const MAX_TEXT: usize = 256;
 
 // What is lent to the run: places for that many gates and qubits, as the questions 9, 10 and 15 count them. An item becomes at most three operations.
 const RECORDS: usize = PRINTED_GATES + PRINTED_QUBITS;
@@ -34,28 +32,16 @@ const PLACES: usize = OP_PLACES * 3 * RECORDS;
 const STATE: usize = 4 * PRINTED_QUBITS * PRINTED_QUBITS + 2 * PRINTED_QUBITS;
 
 // Whether the tape has too many bytes or, passing 1 to 8, too many gates or qubits.
+#[tactic(auto, using(std::proofs::lemmas::Bool::Decides::nat_tests, crate::proofs::Large::large), unfolding(crate::specs::Print::is_too_big))]
 fn is_too_big(tape: &[u8]) -> bool
     ensures { result ≡ is_too_big tape.now }
 {
     if tape.len() > MAX_TAPE {
         return true;
     }
-    let c = check_tape(tape);
-    match c {
-        Checked::Refused {
-            number: _,
-            place: _,
-        } => false,
-        Checked::Good {
-            header,
-            gates,
-            labels: _,
-        } => {
-            if gates > PRINTED_GATES {
-                return true;
-            }
-            header.n > PRINTED_QUBITS
-        }
+    match check_tape(tape) {
+        Ok(c) => c.gates > PRINTED_GATES || c.header.n > PRINTED_QUBITS,
+        Err(_) => false,
     }
 }
 
@@ -63,70 +49,58 @@ fn is_too_big(tape: &[u8]) -> bool
 fn z_of(n: usize, state: &[f64], modes: &[u16], q: usize) -> f64
     ensures { result ≡ z_at n state.now modes.now q }
 {
-    let z = expectation_z(n, state, modes, q);
-    match z {
-        state::Answer::Value(x) => x,
-        state::Answer::Refused(_) => 0.0,
-    }
-}
-
-// The q lines of the first n qubits.
-fn put_z_lines(n: usize, state: &[f64], modes: &[u16], out: &mut [u8], at: usize) -> usize
-    requires { at + length (z_lines (z_at n state.now modes.now) n) ≤ length out.old }
-    ensures { Put (z_lines (z_at n state.now modes.now) n) at out.old out.new result }
-{
-    let mut next = at;
-    let mut q = 0;
-    while q < n {
-        let x = z_of(n, state, modes, q);
-        next = put_z_line(q as u64, x, out, next);
-        q += 1;
-    }
-    next
-}
-
-// A count, with its bound.
-fn wide(x: u32) -> u64
-    ensures value { result ≡ x }
-    ensures bound { result < 2 ^ 32 }
-{
-    x as u64
-}
-
-// Line 2 of a report.
-fn put_order(r: Report, out: &mut [u8], at: usize) -> usize
-    requires { (r.n ≤ printed_qubits) × (at + max_order_line ≤ length out.old) }
-    ensures text { Put (order_line r.ordering r.order r.n) at out.old out.new result }
-    ensures bound { result ≤ at + max_order_line }
-{
-    let ordering = r.ordering;
-    let order = r.order;
-    put_order_line(ordering, &order, r.n, out, at)
+    expectation_z(n, state, modes, q).unwrap_or(0.0)
 }
 
 // The q lines of a report, from the state.
-fn put_z_all(r: Report, state: &[f64], out: &mut [u8], at: usize) -> usize
-    requires { (r.n ≤ printed_qubits) × (at + max_z_lines ≤ length out.old) }
-    ensures { Put (z_lines (z_at r.n state.now r.modes) r.n) at out.old out.new result }
+fn push_z_lines(text: &mut Text, r: &Report, state: &[f64])
+    requires few { r.now.n ≤ printed_qubits }
+    requires room { length text.old.bytes + max_z_lines ≤ max_text }
+    ensures { text.new.bytes ≡ text.old.bytes ++ z_lines (z_at r.now.n state.now r.now.modes) r.now.n }
 {
-    let modes = r.modes;
-    put_z_lines(r.n, state, &modes, out, at)
+    for q in 0..r.n {
+        push_z_line(text, q as u64, z_of(r.n, state, &r.modes, q));
+    }
 }
 
 // The text of a run that was not refused.
-fn put_done(r: Report, state: &[f64], out: &mut [u8]) -> usize
-    requires { (r.n ≤ printed_qubits) × (max_text ≤ length out.old) }
-    ensures text { Put (done_text r state.now) 0 out.old out.new result }
-    ensures bound { result ≤ max_text }
+fn push_done(text: &mut Text, r: &Report, state: &[f64])
+    requires few { r.now.n ≤ printed_qubits }
+    requires empty { text.old.bytes ≡ [] }
+    ensures { text.new.bytes ≡ done_text r.now state.now }
 {
-    let blocks = wide(r.blocks);
-    let gaussian = wide(r.gaussian);
-    let bad = wide(r.bad);
-    let interactions = wide(r.interactions);
-    let n = r.n as u64;
-    let a = put_report_line(n, blocks, gaussian, bad, interactions, out, 0);
-    let b = put_order(r, out, a);
-    put_z_all(r, state, out, b)
+    push_report_line(text, r);
+    push_order_line(text, r.ordering, &r.order[..r.n]);
+    push_z_lines(text, r, state);
+}
+
+// The text of a tape that is not too big.
+fn push_run(text: &mut Text, tape: &[u8])
+    requires fits { is_too_big tape.now ≡ false }
+    requires empty { text.old.bytes ≡ [] }
+    ensures { text.new.bytes ≡ printed tape.now }
+{
+    let mut work = [0.0; FLOATS];
+    let mut marks = [0; MARKS];
+    let mut ops = [0.0; PLACES];
+    let mut state = [0.0; STATE];
+    match run(tape, &mut work, &mut marks, &mut ops, &mut state) {
+        Ok(report) => push_done(text, &report, &state),
+        Err(refusal) => push_refused(text, refusal.number(), refusal.place()),
+    }
+}
+
+#[tactic(auto, unfolding(crate::specs::Print::printed, crate::specs::Lines::too_big_line, crate::specs::Ascii::ascii))]
+fn text_of(tape: &[u8]) -> Text
+    ensures { result.bytes ≡ printed tape.now }
+{
+    let mut text = Text::new();
+    if is_too_big(tape) {
+        text.push_str("too big\n");
+        return text;
+    }
+    push_run(&mut text, tape);
+    text
 }
 
 // The text of a tape, at the start of `out`, and its length. The rest of `out` keeps its bytes.
@@ -135,20 +109,8 @@ pub fn print_tape(tape: &[u8], out: &mut [u8; MAX_TEXT]) -> usize
     ensures text { out.new ≡ printed tape.now ++ drop (length (printed tape.now)) out.old }
     ensures inside { Counts result out.new }
 {
-    if is_too_big(tape) {
-        return put_too_big(out, 0);
-    }
-    let mut work = [0.0; FLOATS];
-    let mut marks = [0; MARKS];
-    let mut ops = [0.0; PLACES];
-    let mut state = [0.0; STATE];
-    let c = run(tape, &mut work, &mut marks, &mut ops, &mut state);
-    let answer = c.answer;
-    match answer {
-        Answer::Refused { number, place } => put_refused(wide(number), place as u64, out, 0),
-        Answer::Done => {
-            let r = c.report;
-            put_done(r, &state, out)
-        }
-    }
+    let text = text_of(tape);
+    let end = text.len();
+    out[..end].copy_from_slice(text.as_str().as_bytes());
+    end
 }

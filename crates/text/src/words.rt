@@ -1,53 +1,42 @@
-// Words and decimal numbers, put into a lent slice one after the other. Each function answers the place after what it wrote.
-ghost use Rattle.std.specs.Prelude.{◌≡◌, ◌+◌, ◌<◌, ◌≤◌, length};
-ghost use Rattle.text.specs.Ascii.{decimal, digit as Ascii·digit};
-ghost use Rattle.text.specs.Put.{Put};
+// A text in the making: words, and numbers in decimal, one behind the other.
+ghost use Rattle.std.specs.Prelude.{◌≡◌, ◌+◌, ◌≤◌, ◌++◌, length};
+ghost use Rattle.text.specs.Ascii.{decimal};
+ghost use Rattle.text.specs.Bounds.{max_text};
+ghost use Rattle.text.specs.Room.{Room};
 
-pub fn put(word: &[u8], out: &mut [u8], at: usize) -> usize
-    requires { at + length word.now ≤ length out.old }
-    ensures { Put word.now at out.old out.new result }
+use arrayvec::ArrayString;
+use itoa::Buffer;
+
+// No text is longer.
+pub const MAX_TEXT: usize = 256;
+
+pub type Text = ArrayString<MAX_TEXT>;
+
+#[tactic(auto, using(crate::proofs::Decimals::decimal_is))]
+pub fn push_decimal(text: &mut Text, x: u64)
+    requires { Room text.old.bytes (decimal x) }
+    ensures { text.new.bytes ≡ text.old.bytes ++ decimal x }
 {
-    let mut i = 0;
-    while i < word.len() {
-        out[at + i] = word[i];
-        i += 1;
-    }
-    at + i
+    let mut digits = Buffer::new();
+    text.push_str(digits.format(x));
 }
 
-fn digit(d: u64) -> u8
-    requires { d < 10 }
-    ensures { result ≡ Ascii·digit d }
+// A word, and a number behind it.
+pub fn push_field(text: &mut Text, word: &str, x: u64)
+    requires { Room text.old.bytes (word.now ++ decimal x) }
+    ensures text { text.new.bytes ≡ text.old.bytes ++ (word.now ++ decimal x) }
+    ensures end { length text.new.bytes ≡ length text.old.bytes + length word.now + length (decimal x) }
 {
-    b'0' + d as u8
+    text.push_str(word);
+    push_decimal(text, x);
 }
 
-// How many digits x has.
-fn digits(x: u64) -> usize
-    ensures { result ≡ length (decimal x) }
+// A word, and a count behind it, which has ten digits at most.
+#[tactic(auto, using(crate::proofs::Lengths::short))]
+pub fn push_count(text: &mut Text, word: &str, x: u32)
+    requires { length text.old.bytes + length word.now + 10 ≤ max_text }
+    ensures text { text.new.bytes ≡ text.old.bytes ++ (word.now ++ decimal x) }
+    ensures end { length text.new.bytes ≤ length text.old.bytes + length word.now + 10 }
 {
-    let mut k = 1;
-    let mut rest = x;
-    while 10 <= rest {
-        rest /= 10;
-        k += 1;
-    }
-    k
-}
-
-// Digits are found from the last to the first.
-pub fn put_decimal(x: u64, out: &mut [u8], at: usize) -> usize
-    requires { at + length (decimal x) ≤ length out.old }
-    ensures { Put (decimal x) at out.old out.new result }
-{
-    let end = at + digits(x);
-    let mut i = end;
-    let mut rest = x;
-    while 10 <= rest {
-        i -= 1;
-        out[i] = digit(rest % 10);
-        rest /= 10;
-    }
-    out[at] = digit(rest);
-    end
+    push_field(text, word, u64::from(x));
 }
