@@ -8,29 +8,19 @@ mod tapes; // tapes.rt: a tape run in lent slices
 use reading::large_buffer;
 use std::io;
 use std::rt::Files;
-use stored_queries::counts;
+use stored::records::{Records, Taped};
 use stored_queries::counts::Counts;
-
-fn count(s: &[u8], counts: &mut Counts) {
-    let mut at = 0;
-    for k in 0..stored::MAX_RECORDS {
-        let r = stored::sized_at(s, at, 1);
-        let from = r.from;
-        let to = r.to;
-        if r.tag == 0 {
-            return;
-        }
-        tapes::compare(&s[from..to], k as u64, counts);
-        at = to;
-    }
-}
 
 fn replay(rt: &(impl Files + Print + Eprint), path: &str) -> io::Result<()> {
     let mut space = large_buffer();
     let n = stored::named_list(rt, path.as_bytes(), &mut space)?;
-    let mut counts: Counts = [0; counts::ENTRIES];
-    count(&space[..n], &mut counts);
-    counts::print(rt, &counts)
+    let mut counts = Counts::default();
+    for (tape, (_, record)) in Records::<Taped>::new(&space[..n]).enumerate() {
+        if tapes::replay(record, tape, &mut counts).is_none() {
+            counts.answers.note(tape, Err(0));
+        }
+    }
+    counts.print(rt)
 }
 
 fn main(rt: HostRuntime) -> io::Result<()> {

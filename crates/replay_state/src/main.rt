@@ -3,70 +3,60 @@
 
 #![tactic(auto)]
 
+mod calls; // calls.rt: the records of a list
+mod held; // held.rt: the state that calls are on
+
+use calls::Call;
+use held::Held;
 use reading::large_buffer;
 use std::io;
 use std::rt::Files;
 use stored::Tally;
+use stored::records::Records;
+use stored::words::{Plain, Words};
+use stored_queries::asked::Query;
 
-mod tags; // tags.rt: the tags of records
-mod slices; // slices.rt: slices read from records
-mod asked; // asked.rt: the queries that need work
-mod calls; // calls.rt: the calls on a state
-
-use calls::step;
-use tags::*;
-
-const PLACES: usize = 288; // of the largest state
-
-const QUBITS: usize = 8; // of the largest mode table
-
-const RECORDS: usize = 4096; // a list has fewer
-
-fn counted(wanted: bool, good: bool) -> Tally {
-    if wanted {
-        return stored::tally_of(good);
-    }
-    stored::nothing()
+// The comparisons of a list.
+#[derive(Clone, Copy, Default)]
+struct Tallies {
+    apply: Tally,
+    states: Tally,
+    queries: [Tally; Query::COUNT],
 }
 
-// The state that the calls are on stands in `space` and `table`.
-fn count(s: &[u8], what: u64, space: &mut [f64], table: &mut [u16]) -> Tally {
-    let mut t = stored::nothing();
-    let mut sizes = calls::no_state();
-    let mut at = 0;
-    for _ in 0..RECORDS {
-        let r = stored::sized_at(s, at, 0);
-        let from = r.from;
-        let to = r.to;
-        if r.tag == 0 {
-            return t;
+impl Tallies {
+    fn print(&self, rt: &impl Print) -> io::Result<()> {
+        stored::print_tally(rt, "apply", self.apply)?;
+        stored::print_tally(rt, "states", self.states)?;
+        for query in Query::ALL {
+            stored::print_tally(rt, query.name(), self.queries[query as usize])?;
         }
-        sizes = step(r.tag, sizes, space, table, &s[from..to]);
-        t = stored::plus(t, counted(r.tag == what, sizes.good));
-        at = to;
+        Ok(())
     }
-    t
 }
 
-fn print_count(rt: &impl Print, s: &[u8], what: u64, name: &str) -> io::Result<()> {
-    let mut space = [0.0; PLACES];
-    let mut table = [0u16; QUBITS];
-    let t = count(s, what, &mut space, &mut table);
-    stored::print_tally(rt, name, t)
+// Another state, or a call on the one that is held. Words that cannot be read do not agree.
+fn step(call: Call, words: &mut Plain, held: &mut Held, tallies: &mut Tallies) {
+    match call {
+        Call::State => *held = Held::read(words).unwrap_or(Held::none()),
+        Call::Apply => tallies.apply.note(held.apply(words) == Some(true)),
+        Call::Holds => tallies.states.note(held.holds(words) == Some(true)),
+        Call::Asked(query) => {
+            tallies.queries[query as usize].note(held.answers(query, words) == Some(true));
+        }
+    }
 }
 
 fn replay(rt: &(impl Files + Print + Eprint), path: &str) -> io::Result<()> {
     let mut space = large_buffer();
     let n = stored::named_list(rt, path.as_bytes(), &mut space)?;
-    let s = &space[..n];
-    print_count(rt, s, APPLY, "apply")?;
-    print_count(rt, s, HOLDS, "states")?;
-    print_count(rt, s, Z, "expectation_z")?;
-    print_count(rt, s, ZZ, "z_correlation")?;
-    print_count(rt, s, PRODUCT, "expectation_z_product")?;
-    print_count(rt, s, MARGINAL, "marginal_probability")?;
-    print_count(rt, s, PROBABILITY, "probability")?;
-    print_count(rt, s, SAMPLE, "sample")
+    let mut held = Held::none();
+    let mut tallies = Tallies::default();
+    for (call, mut words) in Records::<Call>::new(&space[..n]) {
+        words.word(); // how many there are
+        step(call, &mut words, &mut held, &mut tallies);
+    }
+    tallies.print(rt)
 }
 
 fn main(rt: HostRuntime) -> io::Result<()> {

@@ -1,244 +1,193 @@
-// The queries of a record, put to the state of a run. A query is a tag, the number of words that follow, what is asked, the length of work and how
-// many of its places are zero after the call (not of Z), the answer: number, place, value; then a sample's output. Work and output are 7 everywhere
-// before a call.
-use super::counts::*;
-use super::slices::*;
+// Queries put to a state. A query is a tag, the number of words that follow, what is asked, the length of work and how many of its places are zero
+// after the call (not of Z), the answer: number, place, value; then a sample's output. Work and output are 7 everywhere before a call.
 use laws::MAX_QUBITS;
 use state::Told;
+use stored::values::{Stored, Word, compare, is_cleared};
+use stored::words::{Words, size};
 
 // Entries of the longest list of a query, its draws too, and words of the largest output.
 const LISTED: usize = 2 * MAX_QUBITS;
 
 const OUT: usize = 64;
 
-// A tape has fewer queries.
-const QUERIES: usize = 256;
-
-// Number, place and value from word i on.
-fn told(t: Told, words: &[u64], i: usize) -> bool {
-    if t.number == word_from(words, i, 0) && t.place == word_from(words, i, 1) {
-        return num::to_bits(t.value) == word_from(words, i, 2);
-    }
-    false
+// What queries are put to.
+#[derive(Clone, Copy)]
+pub struct State<'a> {
+    pub n: usize,
+    pub entries: &'a [f64],
+    pub modes: &'a [u16],
 }
 
-// Work's zeros and the answer; work's length is word i.
-fn worked(t: Told, work: &[f64], words: &[u64], i: usize) -> bool {
-    let zeros = size_from(words, i, 1);
-    told(t, words, plus(i, 2)) && stored::worked(work, zeros)
+// In at least so many words each list of a query is stored.
+#[derive(Clone, Copy, Default)]
+pub struct Widths {
+    pub qubits: usize,
+    pub draws: usize,
+    pub output: usize,
 }
 
-fn z(n: usize, v: &[f64], modes: &[u16], words: &[u64], i: usize) -> bool {
-    let a = state::expectation_z(n, v, modes, size_from(words, i, 0));
-    told(state::told_answer(a), words, plus(i, 1))
+#[derive(Clone, Copy)]
+pub enum Query {
+    Z,
+    Zz,
+    Product,
+    Marginal,
+    Probability,
+    Sample,
 }
 
-fn zz(n: usize, v: &[f64], modes: &[u16], work: &mut [f64], words: &[u64], i: usize) -> bool {
-    let after = plus(i, 2);
-    let w = size_from(words, after, 0);
-    if work.len() < w {
-        return false;
+impl Query {
+    pub const COUNT: usize = 6;
+
+    // In the order of their tags, the first of which is 4.
+    pub const ALL: [Query; Query::COUNT] = [
+        Query::Z,
+        Query::Zz,
+        Query::Product,
+        Query::Marginal,
+        Query::Probability,
+        Query::Sample,
+    ];
+
+    pub fn of(tag: u64) -> Option<Query> {
+        let place = tag.checked_sub(4)?;
+        Query::ALL.get(place as usize).copied()
     }
-    let a = queries::z_correlation(
-        n,
-        v,
-        modes,
-        size_from(words, i, 0),
-        size_from(words, i, 1),
-        &mut work[0..w],
-    );
-    worked(state::told_answer(a), work, words, after)
+
+    pub fn name(self) -> &'static str {
+        match self {
+            Query::Z => "expectation_z",
+            Query::Zz => "z_correlation",
+            Query::Product => "expectation_z_product",
+            Query::Marginal => "marginal_probability",
+            Query::Probability => "probability",
+            Query::Sample => "sample",
+        }
+    }
+
+    // Whether the answer and what is left in work agree; nothing where the query cannot be read.
+    pub fn agrees<W: Words>(self, state: State, widths: Widths, words: &mut W) -> Option<bool> {
+        match self {
+            Query::Z => z(state, words),
+            Query::Zz => zz(state, words),
+            Query::Product => product(state, widths, words),
+            Query::Marginal => marginal(state, widths, words),
+            Query::Probability => probability(state, words),
+            Query::Sample => sample(state, widths, words),
+        }
+    }
 }
 
-fn product_of(
-    n: usize,
-    v: &[f64],
-    modes: &[u16],
-    list: &mut [usize],
-    work: &mut [f64],
-    words: &[u64],
-    i: usize,
-) -> bool {
-    let k = size_from(words, i, 0);
-    load_sizes(list, words, plus(i, 1));
-    let after = plus(i, plus(k, 1));
-    let w = size_from(words, after, 0);
-    if list.len() < k {
-        return false;
-    }
-    if work.len() < w {
-        return false;
-    }
-    let a = queries::expectation_z_product(n, v, modes, &list[0..k], &mut work[0..w]);
-    worked(state::told_answer(a), work, words, after)
+// Number, place and value.
+fn told<W: Words>(t: Told, words: &mut W) -> bool {
+    let place = compare(&[t.number, t.place], words);
+    let value = t.value.agrees(words);
+    place.is_ok() && value
 }
 
-fn product(n: usize, v: &[f64], modes: &[u16], work: &mut [f64], words: &[u64], i: usize) -> bool {
-    let mut list = [0usize; LISTED];
-    product_of(n, v, modes, &mut list, work, words, i)
+// So many entries, stored in at least so many words.
+fn listed<T: Word, W: Words>(count: usize, width: usize, words: &mut W) -> Option<[T; LISTED]> {
+    let mut list = [T::of(0)?; LISTED];
+    for i in 0..count.max(width) {
+        *list.get_mut(i)? = T::of(words.word()?)?;
+    }
+    Some(list)
 }
 
-fn marginal_of(
-    n: usize,
-    v: &[f64],
-    modes: &[u16],
-    list: &mut [usize],
-    bits: &mut [u8],
-    work: &mut [f64],
-    words: &[u64],
-    i: usize,
-) -> bool {
-    let k = size_from(words, i, 0);
-    let b = size_from(words, i, 1);
-    let first = plus(i, 2);
-    let second = plus(first, k);
-    let after = plus(second, b);
-    load_sizes(list, words, first);
-    load_bits(bits, words, second);
-    let w = size_from(words, after, 0);
-    if list.len() < k {
-        return false;
-    }
-    if bits.len() < b {
-        return false;
-    }
-    if work.len() < w {
-        return false;
-    }
-    let a = queries::marginal_probability(n, v, modes, &list[0..k], &bits[0..b], &mut work[0..w]);
-    worked(state::told_answer(a), work, words, after)
+// A query that works in lent floats. The words are work's length, how many of its places are zero after the call, and the answer.
+fn worked<W: Words, F: FnOnce(&mut [f64]) -> Told>(words: &mut W, ask: F) -> Option<bool>
+    requires { F.IsAlwaysCallable ask }
+{
+    let length = size(words)?;
+    let zeros = size(words)?;
+    let mut work = [7.0; stored::WORK];
+    let answer = ask(work.get_mut(..length)?);
+    Some(told(answer, words) && is_cleared(&work, zeros, 7.0))
 }
 
-fn marginal(n: usize, v: &[f64], modes: &[u16], work: &mut [f64], words: &[u64], i: usize) -> bool {
-    let mut list = [0usize; LISTED];
-    let mut bits = [0u8; LISTED];
-    marginal_of(n, v, modes, &mut list, &mut bits, work, words, i)
+fn z<W: Words>(state: State, words: &mut W) -> Option<bool> {
+    let q = size(words)?;
+    let answer = state::expectation_z(state.n, state.entries, state.modes, q);
+    Some(told(state::Told::from(answer), words))
 }
 
-fn probability(
-    n: usize,
-    v: &[f64],
-    modes: &[u16],
-    work: &mut [f64],
-    words: &[u64],
-    i: usize,
-) -> bool {
-    let after = plus(i, 2);
-    let w = size_from(words, after, 0);
-    if work.len() < w {
-        return false;
-    }
-    let a = queries::probability(
-        n,
-        v,
-        modes,
-        word_from(words, i, 0),
-        word_from(words, i, 1),
-        &mut work[0..w],
-    );
-    worked(state::told_answer(a), work, words, after)
+fn zz<W: Words>(state: State, words: &mut W) -> Option<bool> {
+    let a = size(words)?;
+    let b = size(words)?;
+    worked(words, |work| {
+        state::Told::from(queries::z_correlation(state.n, state.entries, state.modes, a, b, work))
+    })
+}
+
+fn product<W: Words>(state: State, widths: Widths, words: &mut W) -> Option<bool> {
+    let count = size(words)?;
+    let list = listed(count, widths.qubits, words)?;
+    let qubits = list.get(..count)?;
+    worked(words, |work| {
+        state::Told::from(queries::expectation_z_product(
+            state.n,
+            state.entries,
+            state.modes,
+            qubits,
+            work,
+        ))
+    })
+}
+
+fn marginal<W: Words>(state: State, widths: Widths, words: &mut W) -> Option<bool> {
+    let count = size(words)?;
+    let bit_count = size(words)?;
+    let list = listed(count, widths.qubits, words)?;
+    let bit_list = listed(bit_count, widths.qubits, words)?;
+    let qubits = list.get(..count)?;
+    let bits = bit_list.get(..bit_count)?;
+    worked(words, |work| {
+        state::Told::from(queries::marginal_probability(
+            state.n,
+            state.entries,
+            state.modes,
+            qubits,
+            bits,
+            work,
+        ))
+    })
+}
+
+fn probability<W: Words>(state: State, words: &mut W) -> Option<bool> {
+    let low = words.word()?;
+    let high = words.word()?;
+    worked(words, |work| {
+        state::Told::from(queries::probability(
+            state.n,
+            state.entries,
+            state.modes,
+            low,
+            high,
+            work,
+        ))
+    })
 }
 
 // The output's words stand after the answer.
-fn sample_of(
-    n: usize,
-    v: &[f64],
-    modes: &[u16],
-    draws: &mut [f64],
-    out: &mut [u64],
-    work: &mut [f64],
-    words: &[u64],
-    i: usize,
-) -> bool {
-    let d = size_from(words, i, 1);
-    let o = size_from(words, i, 2);
-    let first = plus(i, 3);
-    let after = plus(first, d);
-    load_floats(draws, words, first);
-    let w = size_from(words, after, 0);
-    if draws.len() < d {
-        return false;
-    }
-    if out.len() < o {
-        return false;
-    }
-    if work.len() < w {
-        return false;
-    }
-    let a = queries::sample(
-        n,
-        v,
-        modes,
-        size_from(words, i, 0),
-        &draws[0..d],
-        &mut work[0..w],
-        &mut out[0..o],
-    );
-    worked(state::told_applied(a), work, words, after)
-        && is_words(&out[0..o], words, plus(after, 5))
-}
-
-fn sample(n: usize, v: &[f64], modes: &[u16], work: &mut [f64], words: &[u64], i: usize) -> bool {
-    let mut draws = [0.0; LISTED];
+fn sample<W: Words>(state: State, widths: Widths, words: &mut W) -> Option<bool> {
+    let shots = size(words)?;
+    let draw_count = size(words)?;
+    let length = size(words)?;
+    let draw_list = listed(draw_count, widths.draws, words)?;
+    let draws = draw_list.get(..draw_count)?;
     let mut out = [7u64; OUT];
-    sample_of(n, v, modes, &mut draws, &mut out, work, words, i)
-}
-
-// A query of a kind; what is asked begins at word i.
-fn query(
-    kind: usize,
-    n: usize,
-    v: &[f64],
-    modes: &[u16],
-    work: &mut [f64],
-    words: &[u64],
-    i: usize,
-) -> bool {
-    if kind == Z {
-        return z(n, v, modes, words, i);
-    }
-    if kind == ZZ {
-        return zz(n, v, modes, work, words, i);
-    }
-    if kind == PRODUCT {
-        return product(n, v, modes, work, words, i);
-    }
-    if kind == MARGINAL {
-        return marginal(n, v, modes, work, words, i);
-    }
-    if kind == PROBABILITY {
-        return probability(n, v, modes, work, words, i);
-    }
-    if kind == SAMPLE {
-        return sample(n, v, modes, work, words, i);
-    }
-    false
-}
-
-fn answered(kind: usize, n: usize, v: &[f64], modes: &[u16], words: &[u64], i: usize) -> bool {
-    let mut work = [7.0; stored::WORK];
-    query(kind, n, v, modes, &mut work, words, i)
-}
-
-// The queries from word `first` on, up to a tag 0.
-pub fn compare(
-    n: usize,
-    v: &[f64],
-    modes: &[u16],
-    words: &[u64],
-    first: usize,
-    tape: u64,
-    counts: &mut Counts,
-) {
-    let mut i = first;
-    for k in 0..QUERIES {
-        let kind = size_from(words, i, 0);
-        if kind == 0 {
-            return;
-        }
-        let from = plus(i, 2);
-        let good = answered(kind, n, v, modes, words, from);
-        note(kind, tape, same_or(good, k), counts);
-        i = plus(from, size_from(words, i, 1));
-    }
+    let lent = out.get_mut(..length)?;
+    let same = worked(words, |work| {
+        state::Told::from(queries::sample(
+            state.n,
+            state.entries,
+            state.modes,
+            shots,
+            draws,
+            work,
+            lent,
+        ))
+    })?;
+    let written = out.get(..length.max(widths.output))?;
+    Some(compare(written, words).is_ok() && same)
 }

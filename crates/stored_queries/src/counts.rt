@@ -1,117 +1,64 @@
 // How many comparisons there are of each kind, how many agree, and which is the first that does not.
+use crate::asked::Query;
 use std::io;
+use stored::{Tally, print_tally};
 
-// Kinds of comparisons; those of queries have the tag of the query's record.
-pub const ANSWERS: usize = 0;
-
-pub const REPORTS: usize = 1;
-
-pub const OPERATIONS: usize = 2;
-
-pub const STATES: usize = 3;
-
-pub const Z: usize = 4;
-
-pub const ZZ: usize = 5;
-
-pub const PRODUCT: usize = 6;
-
-pub const MARGINAL: usize = 7;
-
-pub const PROBABILITY: usize = 8;
-
-pub const SAMPLE: usize = 9;
-
-pub const TABLES: usize = 10;
-
-pub const WORK: usize = 11;
-
-pub const KINDS: usize = 12;
-
-// The numbers of a kind: comparisons that agree, all, and of the first that does not its tape and its place.
-const NUMBERS: usize = 4;
-
-pub const ENTRIES: usize = NUMBERS * KINDS;
-
-pub type Counts = [u64; ENTRIES];
-
-// A comparison: where the first difference is.
+// Where a comparison differs: on which tape of the list, and at which place.
 #[derive(Clone, Copy)]
-pub enum Compared {
-    Same,
-    Differs(usize),
+struct Difference {
+    tape: usize,
+    place: usize,
 }
 
-// What is compared stands after so many words that agree.
-pub fn after(words: usize, c: Compared) -> Compared {
-    match c {
-        Compared::Same => Compared::Same,
-        Compared::Differs(place) => { Compared::Differs(words.wrapping_add(place)) }
-    }
+// The comparisons of a kind.
+#[derive(Clone, Copy, Default)]
+pub struct Count {
+    tally: Tally,
+    first: Option<Difference>,
 }
 
-pub fn same_or(same: bool, place: usize) -> Compared {
-    if same {
-        return Compared::Same;
-    }
-    Compared::Differs(place)
-}
-
-// Notes a comparison of a kind, on a tape of the list.
-pub fn note(kind: usize, tape: u64, c: Compared, counts: &mut Counts) {
-    if KINDS <= kind {
-        return;
-    }
-    let at = NUMBERS * kind;
-    let right = counts[at];
-    let all = counts[at + 1];
-    counts[at + 1] = all.wrapping_add(1);
-    match c {
-        Compared::Same => {
-            counts[at] = right.wrapping_add(1);
-        }
-        Compared::Differs(place) => {
-            if right == all {
-                counts[at + 2] = tape;
-                counts[at + 3] = place as u64;
-            }
+impl Count {
+    // A comparison on a tape of the list: an error is the place where it differs.
+    pub fn note(&mut self, tape: usize, compared: Result<(), usize>) {
+        self.tally.note(compared.is_ok());
+        if let Err(place) = compared {
+            self.first = self.first.or(Some(Difference { tape, place }));
         }
     }
-}
 
-// A record that cannot be read is an answer that differs.
-pub fn unreadable(tape: u64, counts: &mut Counts) {
-    note(ANSWERS, tape, Compared::Differs(0), counts);
-}
-
-// A line for a kind that the list has.
-fn print_kind(rt: &impl Print, name: &str, kind: usize, counts: &Counts) -> io::Result<()> {
-    if KINDS <= kind {
-        return Ok(());
+    // A line if there are any, and one for the first that differs.
+    fn print(&self, rt: &impl Print, name: &str) -> io::Result<()> {
+        print_tally(rt, name, self.tally)?;
+        if let Some(first) = self.first {
+            println!(rt; "  first at tape {} place {}", first.tape, first.place)?;
+        }
+        Ok(())
     }
-    let at = NUMBERS * kind;
-    let right = counts[at];
-    let all = counts[at + 1];
-    stored::print_tally(rt, name, stored::Tally { right, all })?;
-    if right != all {
-        let tape = counts[at + 2];
-        let place = counts[at + 3];
-        println!(rt; "  first at tape {tape} place {place}")?;
-    }
-    Ok(())
 }
 
-pub fn print(rt: &impl Print, counts: &Counts) -> io::Result<()> {
-    print_kind(rt, "numbers and places", ANSWERS, counts)?;
-    print_kind(rt, "reports", REPORTS, counts)?;
-    print_kind(rt, "tables", TABLES, counts)?;
-    print_kind(rt, "operations", OPERATIONS, counts)?;
-    print_kind(rt, "states", STATES, counts)?;
-    print_kind(rt, "work afterwards", WORK, counts)?;
-    print_kind(rt, "expectation_z", Z, counts)?;
-    print_kind(rt, "z_correlation", ZZ, counts)?;
-    print_kind(rt, "expectation_z_product", PRODUCT, counts)?;
-    print_kind(rt, "marginal_probability", MARGINAL, counts)?;
-    print_kind(rt, "probability", PROBABILITY, counts)?;
-    print_kind(rt, "sample", SAMPLE, counts)
+// The comparisons of a list.
+#[derive(Clone, Copy, Default)]
+pub struct Counts {
+    pub answers: Count,
+    pub reports: Count,
+    pub tables: Count,
+    pub operations: Count,
+    pub states: Count,
+    pub work: Count,
+    pub queries: [Count; Query::COUNT],
+}
+
+impl Counts {
+    pub fn print(&self, rt: &impl Print) -> io::Result<()> {
+        self.answers.print(rt, "numbers and places")?;
+        self.reports.print(rt, "reports")?;
+        self.tables.print(rt, "tables")?;
+        self.operations.print(rt, "operations")?;
+        self.states.print(rt, "states")?;
+        self.work.print(rt, "work afterwards")?;
+        for query in Query::ALL {
+            self.queries[query as usize].print(rt, query.name())?;
+        }
+        Ok(())
+    }
 }

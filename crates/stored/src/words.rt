@@ -1,0 +1,66 @@
+// The words of a record, read one after the other: each is eight bytes, the lowest first.
+ghost use Rattle.std.specs.Prelude.{◌≡◌, ◌*◌, ◌<◌, ◌≤◌, length, take, drop, IfSome, MatchOption};
+ghost use Rattle.num.specs.Bits.{le64};
+
+// Where words come from. A copy reads ahead.
+pub trait Words: Copy {
+    // The next word; nothing after the last.
+    fn word(&mut self) -> Option<u64>;
+}
+
+// A word as a length, a place or a qubit.
+pub fn size<W: Words>(words: &mut W) -> Option<usize> {
+    Some(words.word()? as usize)
+}
+
+// Bytes that are words.
+#[derive(Clone, Copy)]
+pub struct Plain<'a> {
+    bytes: &'a [u8],
+}
+
+impl<'a> Plain<'a> {
+    pub fn new(bytes: &'a [u8]) -> Plain<'a>
+        ensures { result.bytes.now ≡ bytes.entry.now }
+    {
+        Plain { bytes }
+    }
+
+    // The bytes that are left.
+    pub fn rest(self) -> &'a [u8]
+        ensures { result.now ≡ self.entry.bytes.now }
+    {
+        self.bytes
+    }
+
+    // So many words, and those after them; nothing where they are too few.
+    pub fn split(self, words: usize) -> Option<(Plain<'a>, Plain<'a>)>
+        ensures { IfSome result (λ p. (8 * words ≤ length self.entry.bytes.now)
+            × (p.0.bytes.now ≡ take (8 * words) self.entry.bytes.now)
+            × (p.1.bytes.now ≡ drop (8 * words) self.entry.bytes.now)) }
+    {
+        let (first, rest) = self.bytes.split_at_checked(words.checked_mul(8)?)?;
+        Some((Plain::new(first), Plain::new(rest)))
+    }
+
+    // The tape of a record that begins with the tape's length and the number of words after this one. It fills whole words.
+    pub fn tape(&mut self) -> Option<&'a [u8]> {
+        let size = size(self)?;
+        self.word()?;
+        let (tape, rest) = self.split(size.div_ceil(8))?;
+        *self = rest;
+        tape.bytes.get(..size)
+    }
+}
+
+impl<'a> Words for Plain<'a> {
+    fn word(&mut self) -> Option<u64>
+        ensures { MatchOption result (length self.old.bytes.now < 8) (λ w. (8 ≤ length self.old.bytes.now)
+            × (w ≡ le64 self.old.bytes.now 0) × (self.new.bytes.now ≡ drop 8 self.old.bytes.now)) }
+    {
+        let bytes = self.bytes;
+        let (_, rest) = bytes.split_at_checked(8)?;
+        self.bytes = rest;
+        Some(num::u64_at(bytes, 0))
+    }
+}
