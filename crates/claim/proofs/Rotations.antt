@@ -9,8 +9,8 @@ use Rattle.laws.proofs.Phases.{eq_phase}
 use Rattle.gate.specs.declared.complex.Complex.{Complex}
 use Rattle.gate.specs.declared.matrix.Mat4.{Mat4}
 use Rattle.classify.specs.Diagonal.{phase_a_of, phase_b_of, unit_of, rotation_of, rotation_map_of}
-use Rattle.classify.specs.declared.diagonal.Rotation.{Rotation}
-use Rattle.classify.specs.declared.diagonal.Rotation.TheVariants.{By, Nothing}
+use Rattle.std.specs.Prelude.{Option, Some, None}
+use Rattle.real.specs.declared.maps.Map2.{Map2}
 use Rattle.monomial.specs.Groups.{Four, four, Mat4Of}
 use Rattle.monomial.specs.Monomial.{IsEntry, unit, Mono4, Has4, diagonal, entries4}
 use Rattle.monomial.proofs.Diagonals.{phase-a, phase-b}
@@ -52,9 +52,9 @@ module _ (n : ℕ) (few : n ≤ max_qubits) (b : ℕ → Bool) where
       → HoldsBits n b (evolved_from n (rotated k (rotation_of z)) t)
   unfolding evolved_from
   rotated-holds k z l e lk t h =
-      subst (λ (r : Rotation). HoldsBits n b (evolved_from n (rotated k r) t)) (sym (rotation-is z l e)) (by (not (eq_phase l i0)))
+      subst (λ (r : Option Map2). HoldsBits n b (evolved_from n (rotated k r) t)) (sym (rotation-is z l e)) (by (not (eq_phase l i0)))
     where
-      by : (s : Bool) → HoldsBits n b (evolved_from n (rotated k (cond s (By (rotation_map_of (unit_of z))) Nothing)) t)
+      by : (s : Bool) → HoldsBits n b (evolved_from n (rotated k (cond s (Some (rotation_map_of (unit_of z))) None)) t)
       by true =
           subst (HoldsBits n b) (sym (one-applied n few t k (rotation_map_of (unit_of z)) lk))
           (rotation-holds n k b t z l e lk h)

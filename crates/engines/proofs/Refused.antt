@@ -31,11 +31,12 @@ use Rattle.resolve.specs.Resolve.{resolved, with_rests, start_of}
 use Rattle.resolve.specs.Whole.{resolved_of, fuse_of}
 use Rattle.order.specs.Arrangement.{find}
 use Rattle.order.specs.Choice.{choose_order_of}
+use Rattle.detect.specs.Answers.{number_of, done}
 use Rattle.detect.specs.Operation.{Operation}
 use Rattle.detect.specs.Emit.{operations_of}
 use Rattle.detect.specs.Report.{table, free_of, report_of}
 use Rattle.detect.specs.Compile.{match_pairs, labels_of, items_of, order_of, mode_of_wire, tape_counts, reported_of, program_of}
-use Rattle.detect.specs.Questions.{Asked, early, late, passed, number_of, done, answer_of}
+use Rattle.detect.specs.Questions.{Asked, early, late, passed, answer_of}
 use Rattle.local.specs.State.{stored}
 use Rattle.state.specs.Bounds.{dim_of}
 use Rattle.evolve.specs.Evolve.{evolved}

@@ -18,7 +18,7 @@ use Rattle.real.specs.Maps.{entry2, local2}
 use Rattle.gate.specs.Complex.{f0}
 use Rattle.gate.specs.declared.complex.Complex.{Complex}
 use Rattle.classify.specs.Diagonal.{unit_of, turns_of, rotation_map_of, rotation_of}
-use Rattle.classify.specs.declared.diagonal.Rotation.TheVariants.{By, Nothing}
+use Rattle.std.specs.Prelude.{Some, None}
 use Rattle.monomial.specs.Monomial.{unit, IsEntry}
 use Rattle.monomial.specs.Basis.{basis, Block, Signed, unit_at, row_z, Permutes, permuted}
 use Rattle.monomial.proofs.Known.{eq_z→}
@@ -91,9 +91,9 @@ module _ (p : Complex) (k : Phase) (P : IsEntry p (unit k)) where
       && lt-dy 0 (pos 0) (real_z k) f0 (unit_of p).re zero_is (unit-is p k P).0 t))
       ∙ by-phase (λ k. not (eq_z (imag_z k) (pos 0) && lt_z (pos 0) (real_z k)) ≡ not (eq_phase k i0)) refl refl refl refl k
 
-  pub rotation-is : rotation_of p ≡ cond (not (eq_phase k i0)) (By (rotation_map_of (unit_of p))) Nothing
+  pub rotation-is : rotation_of p ≡ cond (not (eq_phase k i0)) (Some (rotation_map_of (unit_of p))) None
   unfolding rotation_of
-  rotation-is = ap (λ (b : Bool). cond b (By (rotation_map_of (unit_of p))) Nothing) turns-is
+  rotation-is = ap (λ (b : Bool). cond b (Some (rotation_map_of (unit_of p))) None) turns-is
 
   pub rotation-permutes : Permutes 2 (turn_perm k) (entry2 (rotation_map_of (unit_of p)))
   unfolding rotation_map_of

@@ -15,8 +15,8 @@ use Rattle.classify.specs.Classify.{classify2_of, rank_of}
 use Rattle.classify.specs.declared.classify.Class2.{Class2}
 use Rattle.classify.specs.declared.classify.Kind2.{Kind2}
 use Rattle.classify.specs.declared.classify.Kind2.TheVariants.{Diag, Interaction, Match, NonGaussian}
-use Rattle.resolve.specs.declared.choose.Choice.{Choice}
-use Rattle.resolve.specs.declared.choose.Search.{Search}
+use Rattle.resolve.specs.Choose.{Choice}
+use Rattle.resolve.specs.Choose.{Search}
 use Rattle.resolve.specs.Cuts.{in_window, keep, cuts}
 use Rattle.resolve.specs.Choose.{level_of, candidate_of, better_of, improves, offer_of, no_choice, Offer, offers_of, all_offers, try_each, choose_of}
 

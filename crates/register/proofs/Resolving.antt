@@ -20,7 +20,7 @@ use Rattle.gate.specs.declared.matrix.Mat2.{Mat2}
 use Rattle.gate.specs.declared.matrix.Mat4.{Mat4}
 use Rattle.monomial.specs.Monomial.{bit_a, bit_b}
 use Rattle.fuse.specs.Events.{Event, gone, one, two, three}
-use Rattle.resolve.specs.declared.choose.Choice.{Choice}
+use Rattle.resolve.specs.Choose.{Choice}
 use Rattle.resolve.specs.Items.{Item}
 use Rattle.resolve.specs.Cuts.{ahead, prefix_of}
 use Rattle.resolve.specs.Resolve.{Rest, none, opened, longer, Resolved, lengthened, promised, emptied, renamed, added, passed, item_of, settled, candidates, chosen, resolve_step, resolved}

@@ -20,7 +20,7 @@ use Rattle.tape.specs.Header.{header_at, is_tolerance, header_of}
 use Rattle.tape.specs.Parse.{Content, accepted, after_header, parse, content_of, gates_of}
 use Rattle.tape.specs.Good.{GoodGate}
 use Rattle.tape.specs.declared.header.Header.{Header}
-use Rattle.tape.specs.declared.header.Headed.{Headed}
+use Rattle.tape.specs.Headed.{Headed}
 use Rattle.tape.specs.declared.gates.Gate.{Gate}
 use Rattle.tape.proofs.HeaderLaws.{GoodHeader, HeaderIs, good, bad, header_is}
 use Rattle.tape.proofs.Walks.{walk-header}

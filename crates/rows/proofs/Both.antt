@@ -25,8 +25,8 @@ use Rattle.fuse.specs.Fuse.{fused}
 use Rattle.fuse.specs.Compress.{compressed}
 use Rattle.resolve.specs.Resolve.{resolved, with_rests, start_of}
 use Rattle.resolve.specs.Whole.{resolved_of, fuse_of}
+use Rattle.detect.specs.Answers.{Answer}
 use Rattle.detect.specs.declared.report.Report.{Report}
-use Rattle.detect.specs.declared.report.Answer.{Answer}
 use Rattle.detect.specs.Counts.{counted_onto}
 use Rattle.detect.specs.Report.{report_of}
 use Rattle.detect.specs.Compile.{labels_of, items_of, tape_counts, reported_of, program_of}

@@ -48,8 +48,8 @@ use Rattle.local.specs.State.{State, vacuum, get}
 use Rattle.local.specs.Det.{better_of as better, last_largest, less, lowered_all, eliminated, det, odd}
 use Rattle.state.specs.Operation.{is_whole, mode_of, two_of, decode_of, effect}
 use Rattle.state.specs.Calls.{z_of}
-use Rattle.state.specs.declared.operation.Decoded.{Decoded}
-use Rattle.state.specs.declared.operation.Decoded.TheVariants.{Good, Bad}
+use Rattle.std.proofs.Common.{Option, Some, None}
+use Rattle.state.specs.declared.operation.Operation as state
 use Rattle.evolve.specs.Evolve.{decoded_effect, evolved_from, evolved}
 use Rattle.signs.specs.Engines.{no_turn}
 use Rattle.rows.specs.Evolved.{decoded_by, evolved_by}
@@ -150,9 +150,9 @@ unfolding decoded_by evolved_by decoded_effect evolved_from
 own n [] t = refl
 own n (o ∷ os) t = own n os (decoded_by effect (decode_of n (places_of o)) t) ∙ ap (evolved_from n os) (by (decode_of n (places_of o)))
   where
-    by : (d : Decoded) → decoded_by effect d t ≡ decoded_effect d t
-    by (Good o) = refl
-    by Bad = refl
+    by : (d : Option state.Operation) → decoded_by effect d t ≡ decoded_effect d t
+    by (Some o) = refl
+    by None = refl
 
 -- one that never turns
 pub never-turned : z_of (get (evolved_by no_turn 3 (program_of header gates) vacuum)) 2 ≡ +1

@@ -15,12 +15,10 @@ use Rattle.laws.specs.Views.{up_from}
 use Rattle.named.specs.Table.{f-1}
 use Rattle.tape.specs.Parse.{parse}
 use Rattle.order.specs.Arrangement.{find}
-use Rattle.detect.specs.declared.report.Answer.{Answer}
-use Rattle.detect.specs.declared.report.Compiled.{Compiled}
+use Rattle.detect.specs.Answers.{Answer, Compiled, number_of, done}
 use Rattle.detect.specs.Report.{table, report_of}
 use Rattle.detect.specs.Compile.{tape_counts, reported_of, program_of}
 use Rattle.work.specs.Sizes.{work_floats, work_marks}
-use Rattle.detect.specs.Questions.{number_of, done}
 use Rattle.detect.proofs.Edges.{modes-by}
 use Rattle.local.specs.Bounds.{state_places}
 use Rattle.local.specs.State.{state_at, stored, get}

@@ -18,7 +18,7 @@ use Rattle.state.specs.Modes.{is_permutation}
 use Rattle.state.specs.Questions.{state_ok}
 use Rattle.state.specs.Calls.{z_of, decoded_state, apply_state}
 use Rattle.state.specs.Operation.{decode_of, effect, applied}
-use Rattle.state.specs.declared.operation.Decoded.TheVariants.{Good}
+use Rattle.std.proofs.Common.{Some}
 use Rattle.state.proofs.Questions.{asked}
 use Rattle.signs.specs.Paulis.{float, expectation}
 use Rattle.signs.specs.Majoranas.{gamma, paired, zs}
@@ -58,7 +58,7 @@ module _ (n : ℕ) (modes : List ℕ) where
   stored_ok : (t : State) (s : List Float) → state_ok n s modes ≡ true → state_ok n (stored (dim_of n) t s) modes ≡ true
   stored_ok t s ok = still-ok (stored (dim_of n) t s) s (stored_is (dim_of n) s t (stored (dim_of n) t s) (asked n s modes ok).room refl).long ok
 
-  call-applies : (x : BlockOp) (op s : List Float) → decode_of n op ≡ Good (operation x) → state_ok n s modes ≡ true
+  call-applies : (x : BlockOp) (op s : List Float) → decode_of n op ≡ Some (operation x) → state_ok n s modes ≡ true
       → apply_state n s modes op ≡ applied n (operation x) s
   unfolding apply_state decoded_state
   call-applies x op s e ok = rw ok (ap (decoded_state n s) e)

@@ -4,7 +4,7 @@
 -- first, and takes its value in |0..0>. The two agree, zero signs aside. The right sides speak of neither determinants nor later modes nor postponed
 -- signs, so an engine that loses a turn, turns its own rows too, does not settle, or turns the next mode only is not right. Assumes nothing.
 -- A public promise rests on this.
-use Rattle.std.specs.Prelude.{◌≡◌, true, List, [], ◌∷◌, ℕ, ◌*◌, ◌≤◌, ◌<◌, length, Float}
+use Rattle.std.specs.Prelude.{◌≡◌, true, Some, List, [], ◌∷◌, ℕ, ◌*◌, ◌≤◌, ◌<◌, length, Float}
 use Rattle.laws.specs.Zeros.{nz}
 use Rattle.local.specs.Bounds.{state_places}
 use Rattle.local.specs.State.{State, state_at, stored, vacuum, get}
@@ -13,7 +13,6 @@ use Rattle.state.specs.Operation.{applied, decode_of}
 use Rattle.state.specs.Questions.{state_ok}
 use Rattle.state.specs.Calls.{z_of, apply_state}
 use Rattle.state.specs.declared.operation.Operation.{Operation}
-use Rattle.state.specs.declared.operation.Decoded.TheVariants.{Good}
 use Rattle.queries.specs.Products.{product_of}
 use Rattle.signs.specs.Paulis.{float, expectation}
 use Rattle.signs.specs.Majoranas.{gamma, paired, zs, DistinctModes}
@@ -60,7 +59,7 @@ abbrev pub StandIn : ℕ → List BlockOp → List (List Float) → Type 0
 StandIn n [] [] = Unit {0}
 StandIn n [] (op ∷ ops) = ⊥
 StandIn n (x ∷ xs) [] = ⊥
-StandIn n (x ∷ xs) (op ∷ ops) = (decode_of n op ≡ Good (operation x)) × StandIn n xs ops
+StandIn n (x ∷ xs) (op ∷ ops) = (decode_of n op ≡ Some (operation x)) × StandIn n xs ops
 
 -- the state slice after a call of `apply` for each
 unfoldable pub called : ℕ → List ℕ → List (List Float) → List Float → List Float
