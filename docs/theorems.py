@@ -17,7 +17,7 @@ BOXES = {
     "compile": (20, 150, 138, "compile", ["answer, work, marks,", "ops"], "detect/src/questions.rt"),
     "run": (168, 150, 286, "run", ["answer, work, marks, ops, state:", "ran, ran_work, .., ran_state"], "gaussian/src/engine.rt, gaussian/specs/Run.antt"),
     "asks": (464, 150, 138, "queries", ["ensures, each"], "queries/src/*.rt"),
-    "report": (20, 260, 286, "report, work, operations", ["detect, lend, emit_all: ensures; asked, program_of"], "detect/src/*.rt, detect/specs/Questions.antt"),
+    "report": (20, 260, 286, "report, work, operations", ["compile_judged: ensures; asked, program_of"], "detect/src/*.rt, detect/specs/Questions.antt"),
     "evolve": (316, 260, 138, "evolve", ["evolved-written"], "evolve/proofs/Evolving.antt"),
     "pfaffian": (464, 260, 138, "Pfaffian, shot", ["ensures, each"], "pfaffian/src/*.rt"),
     "order": (20, 355, 138, "order", ["order-permutes,", "chosen-inverse,", "rank-mode"], "order/proofs/*.antt"),
