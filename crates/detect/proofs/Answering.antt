@@ -6,6 +6,7 @@ use Prim.Native.Nat.{ℕ, ◌+◌, ◌*◌, ◌≤◌}
 use native.Mathlib.Omega.{arith}
 use lib.ListN.{length, replicate}
 use lib.Ieee.{Float}
+use Rattle.std.proofs.lemmas.Bool.{cond_both}
 use Rattle.laws.specs.Slices.{mapped_to, filled}
 use Rattle.laws.specs.Bounds.{op_places}
 use Rattle.tape.specs.declared.header.Header.{Header}
@@ -16,7 +17,9 @@ use Rattle.detect.specs.Emit.{operations_of}
 use Rattle.detect.specs.Records.{items_in, modes_in}
 use Rattle.detect.specs.Report.{free_of, report_of}
 use Rattle.detect.specs.Compile.{items_of, mode_of_wire, tape_counts, reported_of, program_of}
+use Rattle.work.specs.Lent.{Lent}
 use Rattle.detect.specs.Program.{Detected}
+use Rattle.detect.specs.Lent.{WorkFor, Held, AllKept, all_operations, Detects}
 use Rattle.detect.proofs.Placing.{length-all, placed-none}
 use Rattle.detect.proofs.Emitting.{counts-operations, operations-same}
 
@@ -60,9 +63,9 @@ module _ (h : Header) (gs : List Gate) where
 
   -- ---- what is written
 
-  module _ (g : ℕ) (xs ys : List Float) (us vs : List ℕ) (r : Report) (d : Detected h gs g xs ys us vs r) where
+  module _ (g : ℕ) (ys : List Float) (vs : List ℕ) (r : Report) (d : Detected h gs g ys vs r) where
     emits : operations_of (modes_in vs) (items_in ys vs (g + h.n)) ≡ operations_of (mode_of_wire h gs) (items_of h gs).items
-    emits = operations-same h.n (modes_in vs) (mode_of_wire h gs) d.modes (items_in ys vs (g + h.n)) d.held.below ∙ ap (operations_of (mode_of_wire h gs)) d.items
+    emits = operations-same h.n (modes_in vs) (mode_of_wire h gs) d.modes (items_in ys vs (g + h.n)) d.below ∙ ap (operations_of (mode_of_wire h gs)) d.items
 
     free-is : r.free ≡ free_of (tape_counts h gs)
     free-is = ap (λ r. r.free) d.report ∙ reported-free
@@ -78,13 +81,31 @@ module _ (h : Header) (gs : List Gate) where
     long-enough : (o : ℕ) → op_places * r.operations ≤ o → op_places * length (program_of h gs) ≤ o
     long-enough o k = omega (arith, k, number_is)
 
-    pub emits-fit : (o : ℕ) → op_places * r.operations ≤ o → r.free ≡ true → length (all_places (operations_of (modes_in vs) (items_in ys vs (g + h.n)))) ≤ o
+    emits-fit : (o : ℕ) → op_places * r.operations ≤ o → r.free ≡ true → length (all_places (operations_of (modes_in vs) (items_in ys vs (g + h.n)))) ≤ o
     emits-fit o k e =
         omega (arith, long-enough o k, length-all (operations_of (modes_in vs) (items_in ys vs (g + h.n))), ap length (program-is e))
 
-    pub writes : (l : List Float) → cond r.free (written (operations_of (modes_in vs) (items_in ys vs (g + h.n))) l) l ≡ written (program_of h gs) l
-    writes l = go r.free refl
-      where
-        go : (t : Bool) → r.free ≡ t → cond t (written (operations_of (modes_in vs) (items_in ys vs (g + h.n))) l) l ≡ written (program_of h gs) l
-        go true e = ap (λ os. written os l) (sym (program-is e))
-        go false e = sym (ap (λ os. written os l) (no_program (sym free-is ∙ e)) ∙ written_none l)
+    writes : (l : List Float) → cond r.free (written (operations_of (modes_in vs) (items_in ys vs (g + h.n))) l) l ≡ written (program_of h gs) l
+    writes l =
+        cond_both r.free _ _ (λ z. z ≡ written (program_of h gs) l)
+        (λ e. ap (λ os. written os l) (sym (program-is e))) (λ e. sym (ap (λ os. written os l) (no_program (sym free-is ∙ e)) ∙ written_none l))
+
+  -- said of the lent work
+  module _ (t : List ℕ) (w v : Lent) (r : Report) (is : WorkFor t h w) (d : Detects h gs w v r) where
+    gates_same : v.gates ≡ w.gates
+    gates_same = d.sizes.gates
+
+    slots-same : v.slots ≡ h.n
+    slots-same = d.sizes.slots ∙ is.slots
+
+    pub emits-held : Held v
+    emits-held = rw (gates_same, slots-same) d.detected.below
+
+    pub emits-kept : r.free ≡ true → AllKept v
+    emits-kept e = rw (gates_same, slots-same) (d.detected.kept e)
+
+    pub emits-room : (o : ℕ) → op_places * r.operations ≤ o → r.free ≡ true → length (all_places (all_operations v)) ≤ o
+    emits-room o k e = rw (gates_same, slots-same) (emits-fit w.gates v.floats v.marks r d.detected o k e)
+
+    pub emits-written : (l : List Float) → cond r.free (written (all_operations v) l) l ≡ written (program_of h gs) l
+    emits-written l = rw (gates_same, slots-same) (writes w.gates v.floats v.marks r d.detected l)

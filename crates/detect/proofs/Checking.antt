@@ -1,6 +1,6 @@
 -- From the check of a tape to its parse, question 9 and what is lent on, and the front of a slice made zero. Assumes nothing.
 use mathlib.Core.Path.{◌≡◌, refl, sym, ap, ap₂, ◌∙◌}
-use mathlib.Core.Bool.{Bool, true, false, true≢false, cond}
+use mathlib.Core.Bool.{Bool, true, false, cond}
 use mathlib.Core.List.{List, [], ◌∷◌, ◌++◌}
 use Prim.Native.Nat.{ℕ, zero, suc, ◌≤◌}
 use native.Mathlib.Omega.{arith}
@@ -16,41 +16,15 @@ use Rattle.tape.specs.Parse.{Parsed, Content, refused, accepted, parse, content_
 use Rattle.tape.specs.declared.header.Header.{Header}
 use Rattle.tape.proofs.CursorLaws.{checked-passed}
 use Rattle.tape.proofs.GoodLaws.{gates-good, gates-few}
-use Rattle.fuse.specs.Layout.{Space}
+use Rattle.work.specs.Lent.{Space}
 use Rattle.fuse.specs.Slotted.{Gates}
 use Rattle.tape.specs.Checked.{Good, Refused}
-use Rattle.std.specs.Prelude.{Result, Ok, Err}
-use Rattle.std.specs.Result.{is_ok, result_unwrap_or}
+use Rattle.std.specs.Prelude.{Ok, Err}
 use Rattle.detect.specs.declared.lending.Parts.{Parts}
 use Rattle.detect.specs.declared.refusal.Refusal.{Refusal}
 use Rattle.detect.specs.declared.refusal.Refusal.TheVariants.{SmallWork}
 use Rattle.detect.specs.Questions.{Asked, early, has_work, asked_nine, asked_from}
 use Rattle.detect.specs.Lending.{parts_of, lending_of, Read, Lent}
-
--- ---- tests
-
-pub taken : {A : Type 0} (t : Bool) (a b : A) → t ≡ true → cond t a b ≡ a
-taken t a b e = rw e
-
-pub left : {A : Type 0} (t : Bool) (a b : A) → t ≡ false → cond t a b ≡ b
-left t a b e = rw e
-
--- ---- results
-
-module _ {A B : Type 0} where
-  pub ok-err : {x : A} {e : B} → ◌≡◌ {A = Result A B} (Ok x) (Err e) → ⊥
-  ok-err h = true≢false (ap is_ok h)
-
-  pub same-ok : {x y : A} → ◌≡◌ {A = Result A B} (Ok x) (Ok y) → x ≡ y
-  same-ok {x = x} h = ap (λ r. result_unwrap_or r x) h
-
-  err_or : B → Result A B → B
-  err_or e (Ok x) = e
-  err_or e (Err why) = why
-
-  pub same-err : {e f : B} → ◌≡◌ {A = Result A B} (Err e) (Err f) → e ≡ f
-  unfolding err_or
-  same-err {e = e} h = ap (err_or e) h
 
 -- ---- question 9
 
@@ -67,18 +41,18 @@ module _ (g n w u : ℕ) where
   lent-short {e = e} q = by (has_work g n w u) refl q
     where
       by : (b : Bool) → has_work g n w u ≡ b → cond b (Ok (parts_of g n)) (Err SmallWork) ≡ Err e → (has_work g n w u ≡ false) × (e ≡ SmallWork)
-      by false h k = (h, sym (same-err k))
-      by true h k = absurd (ok-err k)
+      by false h k = (h, cc)
+      by true h k = absurd (cc)
 
   pub lent-parts : {p : Parts} → lending_of g n w u ≡ Ok p → Lends g n w u p
   lent-parts {p = p} e = by (ltb w (work_floats g n)) (ltb u (work_marks g n)) refl refl
     where
       by : (a b : Bool) → ltb w (work_floats g n) ≡ a → ltb u (work_marks g n) ≡ b → Lends g n w u p
-      by true b h k = absurd (ok-err (let z : Err SmallWork ≡ Ok p = sym (rw h) ∙ e in sym z))
-      by false true h k = absurd (ok-err (let z : Err SmallWork ≡ Ok p = sym (rw (h, k)) ∙ e in sym z))
+      by true b h k = (let z : Err SmallWork ≡ Ok p = sym (rw h) ∙ e in absurd (cc))
+      by false true h k = (let z : Err SmallWork ≡ Ok p = sym (rw (h, k)) ∙ e in absurd (cc))
       by false false h k =
           let same : Ok (parts_of g n) ≡ Ok p = sym (rw (h, k)) ∙ e in
-          let is = same-ok same in
+          let is : parts_of g n ≡ p = cc in
           let floats : work_floats g n ≡ p.floats = ap (λ p. p.floats) is in
           let marks : work_marks g n ≡ p.marks = ap (λ p. p.marks) is in
           record {
@@ -88,16 +62,6 @@ module _ (g n w u : ℕ) where
             floats-there = omega (arith, ltb-false w (work_floats g n) h, floats);
             marks-there = omega (arith, ltb-false u (work_marks g n) k, marks);
           }
-
--- what is lent on for a tape has the places of its gates and its qubits
-pub lent-space : (t : List ℕ) (h : Header) (g : ℕ) (w : List Float) (u : List ℕ) → Lent t h g w u
-    → Gates t g h.n × Space w u g h.n × (h.n ≤ max_qubits)
-lent-space t h g w u l =
-    let r = l.tape in (
-      r.gates,
-      record { floats = omega (arith, l.floats); marks = omega (arith, l.marks); few = omega (arith, r.qubits, r.few) },
-      r.qubits,
-    )
 
 -- ---- the front of a slice
 

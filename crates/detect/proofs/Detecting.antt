@@ -3,31 +3,38 @@ use mathlib.Core.Path.{◌≡◌, refl, sym, ap, ap₂, ◌∙◌}
 use mathlib.Core.Logic.{◌⊎◌, inl, inr, ◌≢◌}
 use mathlib.Core.Bool.{Bool, true, false, cond, ◌&&◌}
 use mathlib.Core.List.{List, [], ◌∷◌, ◌++◌, append-nil, Memᴰ}
-use Prim.Native.Nat.{ℕ, zero, suc, ◌+◌, ◌*◌, ◌≤◌, ◌<◌}
+use Prim.Native.Nat.{ℕ, zero, suc, ◌+◌, ◌≤◌, ◌<◌}
 use native.Mathlib.Nat.{zero-add}
 use native.Mathlib.Numerals.{add-one}
 use native.Mathlib.Omega.{arith}
 use lib.Dec.{eqb, ltb}
-use lib.ListN.{length, get_or}
+use lib.ListN.{get_or}
 use lib.Ieee.{Float}
 use borrow.Author.Tests.{ne_eqb}
 use Rattle.laws.specs.Views.{up_from, list_of}
-use Rattle.laws.proofs.Cases.{eq-or-ne}
+use Rattle.std.proofs.lemmas.Bool.{cases_eq}
 use Rattle.laws.proofs.Views.{up-join, get_or-list_of}
 use Rattle.laws.specs.Lists.{All}
 use Rattle.laws.proofs.Lists.{all_append}
-use Rattle.work.specs.Sizes.{record_marks}
-use Rattle.work.specs.Rows.{record_at}
 use Rattle.work.specs.Marks.{mark_at, Only, column}
 use Rattle.work.specs.Columns.{kind_column, a_column, b_column, lab_column, content_column, order_column, pos_column, start_column, match_item}
 use Rattle.tape.specs.Good.{GoodGate}
 use Rattle.tape.specs.Parse.{gates_of}
 use Rattle.tape.specs.declared.header.Header.{Header}
 use Rattle.tape.specs.declared.gates.Gate.{Gate}
-use Rattle.fuse.specs.Layout.{Space}
+use Rattle.work.specs.Lent.{Lent}
 use Rattle.fuse.specs.Slotted.{labelled_at, Relabelled}
+use Rattle.fuse.specs.Lent.{Relabels}
+use Rattle.order.specs.Lent.{WiresInSlots, pairs_of_work, Orders}
+use Rattle.resolve.specs.Lent.{Fuses}
+use Rattle.detect.specs.declared.count.Counts.{Counts}
+use Rattle.detect.specs.declared.report.Report.{Report}
+use Rattle.detect.specs.Kept.{Counted}
+use Rattle.detect.specs.Lent.{WorkFor, Held, TablesThere, CountsAll, Detects, all_items}
+use Rattle.detect.proofs.Keeping.{items_keep, below-counted}
+use Rattle.order.specs.declared.edges.Pair.{Pair}
 use Rattle.order.specs.declared.choice.Ordering.{Ordering}
-use Rattle.order.specs.Weights.{Pair, pair_of, weighs_of, edges_of}
+use Rattle.order.specs.Weights.{pair_of, weighs_of, edges_of}
 use Rattle.order.specs.Cover.{wires, cover_of}
 use Rattle.order.specs.Arrangement.{arranged, zeros, marked, marks, find}
 use Rattle.order.specs.Choice.{covered_of, identity_of, path_order_of, arrange_of, choose_order_of}
@@ -42,8 +49,9 @@ use Rattle.resolve.specs.Whole.{fused_at, Whole}
 use Rattle.resolve.proofs.Wholes.{gates-fused}
 use Rattle.detect.specs.Counts.{counts_of}
 use Rattle.detect.specs.Report.{table}
-use Rattle.detect.specs.Records.{is_item_of, record_item, items_in, modes_in, qubit_mode, ColumnBelow, Held}
-use Rattle.detect.specs.Compile.{relabels_of, reorders_of, match_pairs, labels_of, items_of, order_of, mode_of_wire, mode_of_qubit, tape_counts}
+use Rattle.work.specs.Kinds.{is_item_of}
+use Rattle.detect.specs.Records.{record_item, items_in, modes_in, qubit_mode, ColumnBelow, tables_of}
+use Rattle.detect.specs.Compile.{relabels_of, reorders_of, match_pairs, labels_of, items_of, order_of, mode_of_wire, mode_of_qubit, tape_counts, reported_of}
 use Rattle.detect.proofs.Items.{items_more, items-same, below_at, wires-below}
 use Rattle.detect.proofs.Emitting.{counts_same}
 use Rattle.detect.proofs.Entries.{table_same}
@@ -80,13 +88,14 @@ module _ (xs : List Float) (us : List ℕ) where
   unfolding pairs_of up_from
   pairs-more m =
       let split : list_of (suc m) (Pairs.item_row us) ≡ list_of m (Pairs.item_row us) ++ (Pairs.item_row us m ∷ []) =
-      ap (up_from (Pairs.item_row us) 0) (sym (add-one m)) ∙ up-join (Pairs.item_row us) 0 m 1 ∙ ap (λ k. up_from (Pairs.item_row us) 0 m ++ (Pairs.item_row us k ∷ [])) (zero-add m) in
+      ap (up_from (Pairs.item_row us) 0) (sym (add-one m)) ∙ up-join (Pairs.item_row us) 0 m 1
+      ∙ ap (λ k. up_from (Pairs.item_row us) 0 m ++ (Pairs.item_row us k ∷ [])) (zero-add m) in
       ap pairs_of split ∙ pairs-append (list_of m (Pairs.item_row us)) (Pairs.item_row us m ∷ [])
 
   -- what the item of a record adds
   match-more : (i : ℕ) (l : List Item) → is_item_of (mark_at us i kind_column) ≡ true → match_pairs (record_item xs us i ∷ l) ≡ match_pairs l ++ last i
   unfolding match_pairs
-  match-more i l e = go (eq-or-ne (mark_at us i kind_column) 4) (eq-or-ne (mark_at us i kind_column) 9)
+  match-more i l e = go (cases_eq (mark_at us i kind_column) 4) (cases_eq (mark_at us i kind_column) 9)
     where
       go : (mark_at us i kind_column ≡ 4) ⊎ (mark_at us i kind_column ≢ 4) → (mark_at us i kind_column ≡ 9) ⊎ (mark_at us i kind_column ≢ 9)
           → match_pairs (record_item xs us i ∷ l) ≡ match_pairs l ++ last i
@@ -96,7 +105,7 @@ module _ (xs : List Float) (us : List ℕ) where
 
   -- a record without an item is no matchgate
   no-match : (i : ℕ) → is_item_of (mark_at us i kind_column) ≡ false → last i ≡ []
-  no-match i e = go (eq-or-ne (mark_at us i kind_column) 5)
+  no-match i e = go (cases_eq (mark_at us i kind_column) 5)
     where
       go : (mark_at us i kind_column ≡ 5) ⊎ (mark_at us i kind_column ≢ 5) → last i ≡ []
       go (inl q) = absurd (omega (arith, let z : ◌≡◌ {A = ℕ} 0 1 = let f : true ≡ false = sym (ap is_item_of q) ∙ e in cc in z))
@@ -107,7 +116,8 @@ module _ (xs : List Float) (us : List ℕ) where
   pairs-items zero = refl
   pairs-items (suc m) = pairs-more m ∙ go (is_item_of (mark_at us m kind_column)) refl (pairs-items m)
     where
-      go : (t : Bool) → is_item_of (mark_at us m kind_column) ≡ t → pairs_in us m ≡ match_pairs (items_in xs us m) → pairs_in us m ++ last m ≡ match_pairs (items_in xs us (suc m))
+      go : (t : Bool) → is_item_of (mark_at us m kind_column) ≡ t → pairs_in us m ≡ match_pairs (items_in xs us m)
+          → pairs_in us m ++ last m ≡ match_pairs (items_in xs us (suc m))
       go true e ih = ap (λ l. l ++ last m) ih ∙ sym (match-more m (items_in xs us m) e) ∙ ap match_pairs (sym (rw add-one at (items_more xs us m e)))
       go false e ih = ap₂ ◌++◌ ih (no-match m e) ∙ append-nil (match_pairs (items_in xs us m)) ∙ ap match_pairs (sym (rw add-one at (items-same xs us m e)))
 
@@ -118,7 +128,8 @@ module _ (xs : List Float) (us : List ℕ) where
 
 -- ---- the items stay when the order is written
 
-pub items_stay : (p : ℕ → Bool) (xs : List Float) (us vs : List ℕ) → p 0 ≡ false → p 1 ≡ false → p 2 ≡ false → Only p us vs → (m : ℕ) → items_in xs vs m ≡ items_in xs us m
+pub items_stay : (p : ℕ → Bool) (xs : List Float) (us vs : List ℕ) → p 0 ≡ false → p 1 ≡ false → p 2 ≡ false → Only p us vs → (m : ℕ)
+    → items_in xs vs m ≡ items_in xs us m
 unfolding newest_first item_at
 items_stay p xs us vs a b c o zero = refl
 items_stay p xs us vs a b c o (suc m) =
@@ -152,7 +163,8 @@ pub starts-small : (r : Bool) (n : ℕ) (ps : List Pair) (k : ℕ) → get_or (c
 unfolding choose_order_of arrange_of path_order_of
 starts-small r n ps k =
     let es = edges_of ps in
-    small_at (arrange_of r n es).starts k (go (r && ltb (covered_of es (wires n)) (weighs_of es)) (ltb (covered_of es (wires n)) (covered_of es (path_order_of n es).order)))
+    small_at (arrange_of r n es).starts k
+    (go (r && ltb (covered_of es (wires n)) (weighs_of es)) (ltb (covered_of es (wires n)) (covered_of es (path_order_of n es).order)))
   where
     go : (s t : Bool) → Small (cond s (cond t (path_order_of n (edges_of ps)) (identity_of n)) (identity_of n)).starts
     go true true = marks-small (arranged (cover_of n (edges_of ps)).paths)
@@ -168,7 +180,7 @@ pub record Told (t : List ℕ) (h : Header) (g : ℕ) (ys : List Float) (vs : Li
   pub name : o ≡ (order_of h (gates_of t)).name
   pub items : items_in ys vs (g + h.n) ≡ (items_of h (gates_of t)).items
   pub modes : (v : ℕ) → v < h.n → modes_in vs v ≡ mode_of_wire h (gates_of t) v
-  pub held : Held ys vs (g + h.n) h.n
+  pub below : ItemsBelow h.n (items_in ys vs (g + h.n))
   pub counts : counts_of h.tolerance (modes_in vs) (items_in ys vs (g + h.n)) ≡ tape_counts h (gates_of t)
   pub order : table h.n (column order_column vs) ≡ table h.n (λ k. get_or (order_of h (gates_of t)).order k 0)
   pub starts : table h.n (column start_column vs) ≡ table h.n (λ k. get_or (order_of h (gates_of t)).starts k 0)
@@ -180,7 +192,7 @@ pub record Told (t : List ℕ) (h : Header) (g : ℕ) (ys : List Float) (vs : Li
   pub pos-below : ColumnBelow vs pos_column h.n h.n
 
 module _ (t : List ℕ) (h : Header) (good : (x : Gate) → Memᴰ x (gates_of t) → GoodGate h.n x) (g swaps : ℕ) (xs xs₁ xs₂ : List Float) (us us₁ us₂ : List ℕ)
-    (tl : Tally) (space : Space xs us g h.n)
+    (tl : Tally)
     (r : Relabelled (relabels_of h) t xs xs₁ us us₁ g h.n swaps)
     (w : Whole (relabels_of h) h.tolerance xs₁ xs₂ us₁ us₂ g h.n swaps tl) where
   labelled-is : labelled_at xs₁ us₁ h.n g swaps ≡ labels_of h (gates_of t)
@@ -213,12 +225,6 @@ module _ (t : List ℕ) (h : Header) (good : (x : Gate) → Memᴰ x (gates_of t
 
   below₂ : ItemsBelow h.n (items_in xs₂ us₂ (g + h.n))
   below₂ = rw items-are (wires-items h (gates_of t) good)
-
-  pub floats-there : record_at (g + h.n) ≤ length xs₂
-  floats-there = omega (arith, space.floats, r.size, w.size)
-
-  pub marks-there : record_marks * (g + h.n) ≤ length us₂
-  marks-there = omega (arith, space.marks, r.marks, w.marks)
 
   pub pairs_below : WiresBelow us₂ (g + h.n) h.n
   pairs_below = match-wires xs₂ us₂ (g + h.n) h.n below₂
@@ -268,22 +274,17 @@ module _ (t : List ℕ) (h : Header) (good : (x : Gate) → Memᴰ x (gates_of t
     qubit-told q l =
         let s = (slots-permute h (gates_of t) good).below q l in
         let v = (content-permutes h (gates_of t) good).below (get_or (labels_of h (gates_of t)).lab q 0) s in
-        ap (λ s. mark_at us₃ (mark_at us₃ s content_column) pos_column) (lab-told q l) ∙ ap (λ v. mark_at us₃ v pos_column) (content-told (get_or (labels_of h (gates_of t)).lab q 0) s)
+        ap (λ s. mark_at us₃ (mark_at us₃ s content_column) pos_column) (lab-told q l)
+        ∙ ap (λ v. mark_at us₃ v pos_column) (content-told (get_or (labels_of h (gates_of t)).lab q 0) s)
         ∙ mode-told (get_or (items_of h (gates_of t)).content (get_or (labels_of h (gates_of t)).lab q 0) 0) v
 
-    held-told : Held xs₂ us₃ (g + h.n) h.n
-    held-told = record {
-      floats = floats-there;
-      marks = omega (arith, marks-there, a.only.size);
-      modes = omega (arith, marks-there, a.only.size);
-      few = space.few;
-      below = rw items-told (wires-items h (gates_of t) good);
-    }
+    below-told : ItemsBelow h.n (items_in xs₂ us₃ (g + h.n))
+    below-told = rw items-told (wires-items h (gates_of t) good)
 
     counts-told : counts_of h.tolerance (modes_in us₃) (items_in xs₂ us₃ (g + h.n)) ≡ tape_counts h (gates_of t)
     unfolding tape_counts
     counts-told =
-        counts_same h.n (modes_in us₃) (mode_of_wire h (gates_of t)) mode-told h.tolerance (items_in xs₂ us₃ (g + h.n)) held-told.below
+        counts_same h.n (modes_in us₃) (mode_of_wire h (gates_of t)) mode-told h.tolerance (items_in xs₂ us₃ (g + h.n)) below-told
         ∙ ap (counts_of h.tolerance (mode_of_wire h (gates_of t))) items-told
 
     pub told : Told t h g xs₂ us₃ tl o
@@ -293,7 +294,7 @@ module _ (t : List ℕ) (h : Header) (good : (x : Gate) → Memᴰ x (gates_of t
       name = name-told;
       items = items-told;
       modes = mode-told;
-      held = held-told;
+      below = below-told;
       counts = counts-told;
       order = table_same (λ k. get_or (order_of h (gates_of t)).order k 0) (column order_column us₃) h.n order-told;
       starts = table_same (λ k. get_or (order_of h (gates_of t)).starts k 0) (column start_column us₃) h.n start-told;
@@ -304,3 +305,93 @@ module _ (t : List ℕ) (h : Header) (good : (x : Gate) → Memᴰ x (gates_of t
       content-below = content-below';
       pos-below = pos-below';
     }
+
+-- what a report is made of: the count of the items of w, the tables of v, and the answers of the passes
+pub record Parts (t : List ℕ) (h : Header) (w v : Lent) (tl : Tally) (o : Ordering) : Type 0 where
+  pub counts : counts_of h.tolerance (modes_in w.marks) (all_items w) ≡ tape_counts h (gates_of t)
+  pub swaps : tl.swaps ≡ (items_of h (gates_of t)).swaps
+  pub angled : tl.angled ≡ (items_of h (gates_of t)).angled
+  pub name : o ≡ (order_of h (gates_of t)).name
+  pub tables : tables_of v.marks v.slots ≡ record {
+    order = table h.n (λ k. get_or (order_of h (gates_of t)).order k 0);
+    starts = table h.n (λ k. get_or (order_of h (gates_of t)).starts k 0);
+    modes = table h.n (mode_of_qubit h (gates_of t));
+  }
+
+-- ---- said of the lent work: w is relabelled as w₁, fused as w₂, ordered as w₃, and its items counted as w₄
+
+module _ {t : List ℕ} {h : Header} {w w₁ w₂ : Lent} {relabel : Bool} {swaps : ℕ} {tl : Tally} (is : WorkFor t h w) (e : relabel ≡ relabels_of h)
+    (r : Relabels relabel t w w₁ swaps) (f : Fuses relabel h.tolerance w₁ w₂ swaps tl) where
+  relabelled-here : Relabelled (relabels_of h) t w.floats w₁.floats w.marks w₁.marks w.gates h.n swaps
+  relabelled-here = rw (e, is.slots) at r.relabelled
+
+  fused-here : Whole (relabels_of h) h.tolerance w₁.floats w₂.floats w₁.marks w₂.marks w.gates h.n swaps tl
+  fused-here = rw (e, r.sizes.gates, r.sizes.slots, is.slots) at f.whole
+
+  gates₂ : w₂.gates ≡ w.gates
+  gates₂ = f.sizes.gates ∙ r.sizes.gates
+
+  slots₂ : w₂.slots ≡ h.n
+  slots₂ = f.sizes.slots ∙ r.sizes.slots ∙ is.slots
+
+  pub wires-there : WiresInSlots w₂
+  wires-there =
+      rw (gates₂, slots₂)
+      (pairs_below t h is.tape.gates.good w.gates swaps w.floats w₁.floats w₂.floats w.marks w₁.marks w₂.marks tl relabelled-here fused-here)
+
+  module _ {w₃ : Lent} {reorder : Bool} {o : Ordering} (q : reorder ≡ reorders_of h)
+      (a : Orders w₂ w₃ (choose_order_of reorder w₂.slots (pairs_of_work w₂)) o) where
+    arranged-here : Arranges w₂.marks w₃.marks h.n (choose_order_of (reorders_of h) h.n (pairs_in w₂.marks (w.gates + h.n))) o
+    arranged-here = rw (q, gates₂, slots₂) at a.arranged
+
+    gates₃ : w₃.gates ≡ w.gates
+    gates₃ = a.rest.gates ∙ gates₂
+
+    slots₃ : w₃.slots ≡ h.n
+    slots₃ = a.rest.slots ∙ slots₂
+
+    told-here : Told t h w.gates w₃.floats w₃.marks tl o
+    told-here =
+        rw a.rest.floats
+        (told t h is.tape.gates.good w.gates swaps w.floats w₁.floats w₂.floats w.marks w₁.marks w₂.marks tl relabelled-here fused-here
+        w₃.marks o arranged-here)
+
+    pub items-held : Held w₃
+    items-held = rw (gates₃, slots₃) told-here.below
+
+    module _ {w₄ : Lent} {c : Counts} (k : CountsAll c w₃ w₄) where
+      pub tables-there : TablesThere w₄
+      tables-there =
+          let d = told-here in
+          let n = is.tape.qubits in
+          rw (k.rest.slots, k.rest.marks, slots₃) (record {
+            qubits = record { few = n; slots = d.lab-below; content = d.content-below; modes = d.pos-below };
+            order = λ i l. omega (arith, d.order_below i l, n);
+            starts = d.start-below;
+          })
+
+      counted-here : Counted c w₃.floats w₄.floats w₃.marks (w.gates + h.n)
+      counted-here = rw (gates₃, slots₃) at k.counted
+
+      pub parts : Parts t h w₃ w₄ tl o
+      parts =
+          let d = told-here in
+          record {
+            counts = rw (gates₃, slots₃) d.counts;
+            swaps = d.swaps;
+            angled = d.angled;
+            name = d.name;
+            tables = rw (k.rest.slots, k.rest.marks, slots₃) (λ z. record { order = d.order z; starts = d.starts z; modes = d.qubits z });
+          }
+
+      pub detects : {rep : Report} → rep ≡ reported_of h (gates_of t) → (rep.free ≡ true → c.bad ≡ 0) → Detects h (gates_of t) w w₄ rep
+      detects is-told free = record {
+        sizes = record { gates = k.rest.gates ∙ gates₃; slots = k.rest.slots ∙ slots₃ ∙ sym is.slots };
+        detected = rw k.rest.marks (record {
+          report = is-told;
+          items = items_keep w₃.floats w₄.floats w₃.marks counted-here.same _ ∙ told-here.items;
+          modes = told-here.modes;
+          below = below-counted w₃.floats w₃.marks c w₄.floats _ counted-here h.n told-here.below;
+          kept = λ y. counted-here.kept (free y);
+        });
+      }

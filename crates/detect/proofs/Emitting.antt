@@ -1,7 +1,7 @@
 -- The operations of one record more; the number of an item's operations is its share's; modes count only on wires. Assumes nothing.
 use mathlib.Core.Path.{◌≡◌, refl, sym, ap, ap₂, ◌∙◌}
 use mathlib.Core.Logic.{◌⊎◌, inl, inr}
-use mathlib.Core.Bool.{Bool, true, false, cond}
+use mathlib.Core.Bool.{Bool, true, false}
 use mathlib.Core.List.{List, [], ◌∷◌, ◌++◌}
 use Prim.Native.Nat.{ℕ, zero, suc, ◌+◌, ◌≤◌, ◌<◌}
 use native.Mathlib.Numerals.{add-one}
@@ -9,15 +9,15 @@ use native.Mathlib.Omega.{arith}
 use lib.ListN.{length, length-append}
 use lib.Seq.{paste}
 use lib.Ieee.{Float, le}
+use Rattle.detect.specs.declared.count.Counts.{Counts}
 use Rattle.laws.specs.Bounds.{op_places}
-use Rattle.laws.proofs.Cases.{eq-or-ne}
+use Rattle.std.proofs.lemmas.Bool.{cases_eq, cond_both}
 use Rattle.real.specs.declared.maps.Map2.{Map2}
 use Rattle.gate.specs.declared.matrix.Mat4.{Mat4}
 use Rattle.work.specs.Marks.{mark_at}
 use Rattle.work.specs.Columns.{kind_column, a_column, b_column, match_item, diagonal_item, interaction_item}
 use Rattle.fuse.specs.Layout.{matrix4_of}
 use Rattle.majorana.specs.Majorana.{majorana_map1_of, majorana_map2_of}
-use Rattle.majorana.specs.Numbers.{commutes_j2_of}
 use Rattle.majorana.specs.declared.maps.Mapped.{Mapped}
 use Rattle.classify.specs.Diagonal.{phase_a_of, phase_b_of, interaction_of, unit_of, rotation_of}
 use Rattle.std.specs.Prelude.{Option, Some, None}
@@ -27,8 +27,10 @@ use Rattle.resolve.specs.Items.{Item, ItemKind, ItemBelow, ItemsBelow}
 use Rattle.resolve.specs.Slots.{kind_at}
 use Rattle.detect.specs.Operation.{Operation, one, two, interaction, one_places, places_of, all_places, Put}
 use Rattle.detect.specs.Emit.{oriented_of, lower_of, rotated, rotations_of, two_operations, item_operations, operations_of}
-use Rattle.detect.specs.Counts.{gaussian, bad, apart, one_share, adjacent_share, match_share, turned, turns_in, two_share, plus_of, share_of, counted_onto, counts_of}
-use Rattle.detect.specs.Records.{is_item_of, record_item, items_in}
+use Rattle.detect.specs.Counts.{one_share, adjacent_share, match_share, turned, turns_in, two_share}
+use Rattle.detect.specs.Counts.{plus_of, share_of, counted_onto, counts_of}
+use Rattle.work.specs.Kinds.{is_item_of}
+use Rattle.detect.specs.Records.{record_item, items_in}
 use Rattle.detect.proofs.Items.{items_more, items-same, items-none, record-two}
 use Rattle.detect.proofs.Placing.{all_append, one-long, put-none, put_one, put-length, put_both}
 
@@ -61,12 +63,14 @@ module _ (xs : List Float) (us : List ℕ) (pos : ℕ → ℕ) where
 
   pub emitted-fits : (i m : ℕ) → i ≤ m → length (all_places (emitted i)) ≤ length (all_places (emitted m))
   emitted-fits i zero h = let z : i ≡ 0 = omega arith in rw z (omega arith)
-  emitted-fits i (suc m) h = go (eq-or-ne i (suc m)) (λ l. emitted-fits i m l)
+  emitted-fits i (suc m) h = go (cases_eq i (suc m)) (λ l. emitted-fits i m l)
     where
-      go : (i ≡ suc m) ⊎ (i ≡ suc m → ⊥) → (i ≤ m → length (all_places (emitted i)) ≤ length (all_places (emitted m))) → length (all_places (emitted i)) ≤ length (all_places (emitted (suc m)))
+      go : (i ≡ suc m) ⊎ (i ≡ suc m → ⊥) → (i ≤ m → length (all_places (emitted i)) ≤ length (all_places (emitted m)))
+          → length (all_places (emitted i)) ≤ length (all_places (emitted (suc m)))
       go (inl e) ih = rw e (omega arith)
       go (inr ne) ih =
-          let step : length (all_places (emitted m)) ≤ length (all_places (emitted (suc m))) = rw add-one at (grows m (is_item_of (mark_at us m kind_column)) refl) in
+          let step : length (all_places (emitted m)) ≤ length (all_places (emitted (suc m))) =
+          rw add-one at (grows m (is_item_of (mark_at us m kind_column)) refl) in
           omega (arith, ih (omega (arith, ne)), step)
 
 -- ---- the number of operations
@@ -84,19 +88,11 @@ turns-is i j v =
 
 one-operations : (tol : Float) (m : Mapped Map2) → (one_share tol m).operations ≡ 1
 unfolding one_share
-one-operations tol m = go (le m.residual tol)
-  where
-    go : (t : Bool) → (cond t (gaussian 0 1 m.residual (commutes_j2_of m.q)) (bad 0 1 m.residual)).operations ≡ 1
-    go true = refl
-    go false = refl
+one-operations tol m = cond_both (le m.residual tol) _ _ (λ (z : Counts). z.operations ≡ 1) (λ _. refl) (λ _. refl)
 
 match-operations : (i j : ℕ) (r : Float) (v : Mat4) → (match_share i j r v).operations ≡ 1
 unfolding match_share adjacent_share
-match-operations i j r v = go (beside_of i j)
-  where
-    go : (t : Bool) → (cond t (adjacent_share r (majorana_map2_of (oriented_of i j v))) apart).operations ≡ 1
-    go true = refl
-    go false = refl
+match-operations i j r v = cond_both (beside_of i j) _ _ (λ (z : Counts). z.operations ≡ 1) (λ _. refl) (λ _. refl)
 
 two-operations : (block : ℕ) (kind : ItemKind) (i j : ℕ) (r : Float) (v : Mat4)
     → (two_share kind i j r v).operations ≡ length (two_operations block kind i j v)
@@ -193,7 +189,9 @@ module _ (xs : List Float) (us : List ℕ) (pos : ℕ → ℕ) (i p r block : �
     (new : Put (item_operations pos block (record_item xs us i)) p m m' r)
     (room : length (all_places (emitted xs us pos i ++ item_operations pos (length (items_in xs us i)) (record_item xs us i))) ≤ length l) where
   all : Put (emitted xs us pos i ++ item_operations pos (length (items_in xs us i)) (record_item xs us i)) 0 l m' r
-  all = put_both 0 l (emitted xs us pos i) (item_operations pos (length (items_in xs us i)) (record_item xs us i)) (omega (arith, room)) m m' p r sofar (rw number at new)
+  all =
+      put_both 0 l (emitted xs us pos i) (item_operations pos (length (items_in xs us i)) (record_item xs us i)) (omega (arith, room)) m m' p r sofar
+      (rw number at new)
 
   pub turn-put : Put (emitted xs us pos (i + 1)) 0 l m' r
   turn-put = rw (emitted-more xs us pos i is) all

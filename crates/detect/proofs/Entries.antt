@@ -10,7 +10,7 @@ use lib.ListN.{length, get_or, set, length-set}
 use lib.Seq.{get_or-set_same, get_or-set_other, ext_get_or}
 use borrow.Author.Tests.{lt-ltb, le-ltb}
 use Rattle.laws.specs.Views.{up_from, list_of}
-use Rattle.laws.proofs.Cases.{lt-or-le, eq-or-ne}
+use Rattle.std.proofs.lemmas.Bool.{cases_lt, cases_eq}
 use Rattle.laws.proofs.Views.{length-list_of, get_or-list_of, up_same}
 use Rattle.detect.specs.Report.{table}
 
@@ -38,7 +38,7 @@ module _ (e : ℕ → ℕ) where
   table_more k v t h q s =
       ap (λ t. set t k v) q
       ∙ ext_get_or 0 (set (table k e) k v) (table (k + 1) e) (length-set (table k e) k v ∙ length-table k ∙ sym (length-table (k + 1)))
-      (λ i l. one i (omega (arith, length-set (table k e) k v, length-table k)) (eq-or-ne i k) (lt-or-le i k))
+      (λ i l. one i (omega (arith, length-set (table k e) k v, length-table k)) (cases_eq i k) (cases_lt i k))
     where
       one : (i : ℕ) → i < 128 → (i ≡ k) ⊎ (i ≢ k) → (i < k) ⊎ (k ≤ i) → get_or (set (table k e) k v) i 0 ≡ get_or (table (k + 1) e) i 0
       one i l (inl x) c =
@@ -50,7 +50,7 @@ module _ (e : ℕ → ℕ) where
 
 pub table_same : (e f : ℕ → ℕ) (n : ℕ) → ((k : ℕ) → k < n → f k ≡ e k) → table n f ≡ table n e
 unfolding table
-table_same e f n h = up_same (λ k. cond (ltb k n) (e k) 0) (λ k. cond (ltb k n) (f k) 0) 0 128 (λ k a b. one k (lt-or-le k n))
+table_same e f n h = up_same (λ k. cond (ltb k n) (e k) 0) (λ k. cond (ltb k n) (f k) 0) 0 128 (λ k a b. one k (cases_lt k n))
   where
     one : (k : ℕ) → (k < n) ⊎ (n ≤ k) → cond (ltb k n) (f k) 0 ≡ cond (ltb k n) (e k) 0
     one k (inl l) = rw (lt-ltb k n l) (h k l)

@@ -1,22 +1,18 @@
 -- The item of a record, by its kind; the items of one record more; wires below n, item by item. Assumes nothing.
-use mathlib.Core.Path.{◌≡◌, refl, sym, ap, ap₂, ◌∙◌}
+use mathlib.Core.Path.{◌≡◌, refl, sym, ap, ◌∙◌}
 use mathlib.Core.Logic.{◌⊎◌, inl, inr, ◌≢◌}
 use mathlib.Core.Bool.{Bool, true, false, cond, true≢false}
 use mathlib.Core.List.{List, [], ◌∷◌, ◌++◌}
 use Prim.Native.Nat.{ℕ, zero, suc, ◌+◌, ◌≤◌, ◌<◌}
 use native.Mathlib.Numerals.{add-one}
 use native.Mathlib.Omega.{arith}
-use lib.Dec.{leb, eqb}
+use lib.Dec.{eqb}
 use lib.ListN.{length}
 use lib.Ieee.{Float}
-use borrow.Author.Tests.{ne_eqb, le-leb, lt-leb, leb-true}
-use Rattle.laws.proofs.Cases.{lt-or-le, eq-or-ne}
-use Rattle.laws.proofs.Tests.{and_left, and_right}
-use Rattle.std.specs.Prelude.{Some, None}
-use Rattle.std.proofs.lemmas.Option.{none-some}
-use Rattle.work.specs.Kinds.{kind_number, kind_of}
+use borrow.Author.Tests.{ne_eqb, le-leb, lt-leb}
+use Rattle.std.proofs.lemmas.Bool.{cases_lt, cases_eq}
+use Rattle.work.specs.Kinds.{kind_number, is_item_of}
 use Rattle.work.specs.declared.kinds.Kind.{Kind}
-use Rattle.work.proofs.KindLaws.{kind_back, kind_read}
 use Rattle.gate.specs.declared.matrix.Mat2.{Mat2}
 use Rattle.work.specs.Marks.{mark_at}
 use Rattle.work.specs.Columns.{kind_column, a_column, b_column, one_item, match_item, neither_item, opaque_item}
@@ -24,68 +20,24 @@ use Rattle.fuse.specs.Layout.{matrix2_of, matrix4_of}
 use Rattle.resolve.specs.Items as Items
 use Rattle.resolve.specs.Items.{Item, newest_first, ItemBelow, ItemsBelow}
 use Rattle.resolve.specs.Slots.{kind_at, item, item_at, residual_at}
-use Rattle.detect.specs.Records.{is_item_of, item_kind_of, item_by, record_item, items_in}
+use Rattle.detect.specs.Records.{item_by, record_item, items_in}
 
--- ---- the kind that a record's mark tells
-
--- every number from that of the first item's kind to that of the last is a kind's
-some-kind : (v : ℕ) → is_item_of v ≡ true → (k : Kind) × (v ≡ kind_number k)
-some-kind v h =
-    by (eq-or-ne v 4) (eq-or-ne v 5) (eq-or-ne v 6) (eq-or-ne v 7) (eq-or-ne v 8) (leb-true one_item v (and_left (leb one_item v) _ h))
-    (leb-true v opaque_item (and_right (leb one_item v) _ h))
-  where
-    by : (v ≡ 4) ⊎ (v ≢ 4) → (v ≡ 5) ⊎ (v ≢ 5) → (v ≡ 6) ⊎ (v ≢ 6) → (v ≡ 7) ⊎ (v ≢ 7) → (v ≡ 8) ⊎ (v ≢ 8) → one_item ≤ v → v ≤ opaque_item
-        → (k : Kind) × (v ≡ kind_number k)
-    by (inl e) b c d f l g = (Kind.OneItem, e)
-    by (inr a) (inl e) c d f l g = (Kind.MatchItem, e)
-    by (inr a) (inr b) (inl e) d f l g = (Kind.DiagonalItem, e)
-    by (inr a) (inr b) (inr c) (inl e) f l g = (Kind.InteractionItem, e)
-    by (inr a) (inr b) (inr c) (inr d) (inl e) l g = (Kind.NeitherItem, e)
-    by (inr a) (inr b) (inr c) (inr d) (inr f) l g = (Kind.OpaqueItem, omega (arith, a, b, c, d, f, l, g))
-
-pub item_some : (v : ℕ) (k : Kind) → item_kind_of v ≡ Some k → (v ≡ kind_number k) × (is_item_of v ≡ true)
-unfolding item_kind_of
-item_some v k e = by (is_item_of v) refl e
-  where
-    by : (b : Bool) → is_item_of v ≡ b → cond b (kind_of v) None ≡ Some k → (v ≡ kind_number k) × (is_item_of v ≡ true)
-    by true h q = (kind_back v k q, h)
-    by false h q = absurd (none-some k q)
-
-pub item_none : (v : ℕ) → item_kind_of v ≡ None → is_item_of v ≡ false
-unfolding item_kind_of
-item_none v e = by (is_item_of v) refl e
-  where
-    by : (b : Bool) → is_item_of v ≡ b → cond b (kind_of v) None ≡ None → is_item_of v ≡ false
-    by true h q = let k = some-kind v h in absurd (none-some k.0 (sym q ∙ sym (kind_read v k.0 k.1)))
-    by false h q = h
-
-module _ (v : ℕ) where
-  pub item_read : (k : Kind) (b : Bool) → kind_of v ≡ Some k → is_item_of (kind_number k) ≡ b → cond b (Some k) None ≡ item_kind_of v
-  unfolding item_kind_of
-  item_read k b h e = sym (ap₂ (λ t x. cond t x None) (ap is_item_of (kind_back v k h) ∙ e) h)
-
-  pub item_unread : kind_of v ≡ None → None ≡ item_kind_of v
-  unfolding item_kind_of
-  item_unread h = by (is_item_of v)
-    where
-      by : (b : Bool) → None ≡ cond b (kind_of v) None
-      by true = sym h
-      by false = refl
+-- ---- kinds
 
 -- no matchgate, no diagonal block and no interaction
-pub neither_kind : (k : Kind) → k ≢ Kind.MatchItem → k ≢ Kind.DiagonalItem → k ≢ Kind.InteractionItem
+pub neither : (k : Kind) → k ≢ Kind.MatchItem → k ≢ Kind.DiagonalItem → k ≢ Kind.InteractionItem
     → (kind_at (kind_number k) ≡ Items.neither) × (eqb (kind_number k) match_item ≡ false)
 unfolding kind_at
-neither_kind Kind.Gone a b c = (refl, refl)
-neither_kind Kind.One a b c = (refl, refl)
-neither_kind Kind.Two a b c = (refl, refl)
-neither_kind Kind.Three a b c = (refl, refl)
-neither_kind Kind.OneItem a b c = (refl, refl)
-neither_kind Kind.MatchItem a b c = absurd (a refl)
-neither_kind Kind.DiagonalItem a b c = absurd (b refl)
-neither_kind Kind.InteractionItem a b c = absurd (c refl)
-neither_kind Kind.NeitherItem a b c = (refl, refl)
-neither_kind Kind.OpaqueItem a b c = (refl, refl)
+neither Kind.Gone a b c = (refl, refl)
+neither Kind.One a b c = (refl, refl)
+neither Kind.Two a b c = (refl, refl)
+neither Kind.Three a b c = (refl, refl)
+neither Kind.OneItem a b c = (refl, refl)
+neither Kind.MatchItem a b c = absurd (a refl)
+neither Kind.DiagonalItem a b c = absurd (b refl)
+neither Kind.InteractionItem a b c = absurd (c refl)
+neither Kind.NeitherItem a b c = (refl, refl)
+neither Kind.OpaqueItem a b c = (refl, refl)
 
 -- ---- by kind
 
@@ -93,7 +45,7 @@ abbrev Says : ℕ → ℕ → ℕ → Mat2 → Item → Type 0
 Says k a b m x = item k a b m x ≡ cond (is_item_of k) (item_by k (Items.one a m) x ∷ []) []
 
 kind-item : (k a b : ℕ) (m : Mat2) (x : Item) → Says k a b m x
-kind-item k a b m x = go (lt-or-le k one_item) (lt-or-le opaque_item k)
+kind-item k a b m x = go (cases_lt k one_item) (cases_lt opaque_item k)
   where
     inside : (one_item ≤ k) → (k ≤ opaque_item) → (k ≡ one_item) ⊎ (k ≢ one_item) → (k ≡ opaque_item) ⊎ (k ≢ opaque_item) → Says k a b m x
     inside l h (inl e) q = rw e refl
@@ -111,8 +63,15 @@ kind-item k a b m x = go (lt-or-le k one_item) (lt-or-le opaque_item k)
     go (inr l) (inl h) =
         let not-one : k ≢ one_item = λ e. omega arith in
         let not-opaque : k ≢ opaque_item = λ e. omega arith in
-        rw (ne_eqb k one_item not-one, ne_eqb k opaque_item not-opaque, le-leb match_item k (omega arith), lt-leb k neither_item (omega arith), le-leb one_item k l, lt-leb k opaque_item h)
-    go (inr l) (inr h) = inside l h (eq-or-ne k one_item) (eq-or-ne k opaque_item)
+        rw (
+          ne_eqb k one_item not-one,
+          ne_eqb k opaque_item not-opaque,
+          le-leb match_item k (omega arith),
+          lt-leb k neither_item (omega arith),
+          le-leb one_item k l,
+          lt-leb k opaque_item h,
+        )
+    go (inr l) (inr h) = inside l h (cases_eq k one_item) (cases_eq k opaque_item)
 
 module _ (xs : List Float) (us : List ℕ) where
   record-items : (i : ℕ) → item_at xs us i ≡ cond (is_item_of (mark_at us i kind_column)) (record_item xs us i ∷ []) []
@@ -151,7 +110,7 @@ module _ (xs : List Float) (us : List ℕ) where
   pub below_at : (n m i : ℕ) → ItemsBelow n (items_in xs us m) → i < m → is_item_of (mark_at us i kind_column) ≡ true → ItemBelow n (record_item xs us i)
   unfolding newest_first
   below_at n zero i b h e = absurd (omega arith)
-  below_at n (suc m) i b h e = go (is_item_of (mark_at us m kind_column)) refl (eq-or-ne i m) (rw (record-items m) at b) (λ s l. below_at n m i s l e)
+  below_at n (suc m) i b h e = go (is_item_of (mark_at us m kind_column)) refl (cases_eq i m) (rw (record-items m) at b) (λ s l. below_at n m i s l e)
     where
       go : (t : Bool) → is_item_of (mark_at us m kind_column) ≡ t → (i ≡ m) ⊎ (i ≢ m)
           → ItemsBelow n (cond t (record_item xs us m ∷ []) [] ++ newest_first (item_at xs us) m)
@@ -170,7 +129,8 @@ module _ (xs : List Float) (us : List ℕ) where
   record-opaque i e = rw e refl
 
   pub record-two : (i : ℕ) → mark_at us i kind_column ≢ one_item → mark_at us i kind_column ≢ opaque_item
-      → record_item xs us i ≡ Items.two (kind_at (mark_at us i kind_column)) (mark_at us i a_column) (mark_at us i b_column) (residual_at xs i) (matrix4_of xs i)
+      → record_item xs us i
+      ≡ Items.two (kind_at (mark_at us i kind_column)) (mark_at us i a_column) (mark_at us i b_column) (residual_at xs i) (matrix4_of xs i)
   record-two i a b = rw (ne_eqb (mark_at us i kind_column) one_item a, ne_eqb (mark_at us i kind_column) opaque_item b)
 
   pub wires-below : (n i : ℕ) → mark_at us i kind_column ≢ one_item → mark_at us i kind_column ≢ opaque_item → ItemBelow n (record_item xs us i)
@@ -178,7 +138,7 @@ module _ (xs : List Float) (us : List ℕ) where
   wires-below n i a b h = rw (record-two i a b) at h
 
   pub wire-below : (n i : ℕ) → mark_at us i kind_column ≢ opaque_item → ItemBelow n (record_item xs us i) → mark_at us i a_column < n
-  wire-below n i b h = go (eq-or-ne (mark_at us i kind_column) one_item)
+  wire-below n i b h = go (cases_eq (mark_at us i kind_column) one_item)
     where
       go : (mark_at us i kind_column ≡ one_item) ⊎ (mark_at us i kind_column ≢ one_item) → mark_at us i a_column < n
       go (inl e) = rw (record-one i e) at h

@@ -11,7 +11,7 @@ use lib.Seq.{paste, length-take-le, take_all, take_at, drop_at, drop-drop, ext_g
 use lib.Ieee.{Float, nan}
 use borrow.Author.Tests.{ne_eqb}
 use borrow.Rule.Slice.PartMut.{put_mid}
-use Rattle.laws.proofs.Cases.{lt-or-le, eq-or-ne}
+use Rattle.std.proofs.lemmas.Bool.{cases_lt, cases_eq}
 use Rattle.laws.proofs.Slices.{part_at, length-put, put-before, put-after}
 use Rattle.laws.specs.Bounds.{op_places}
 use Rattle.gate.proofs.Stored.{mat2-alike, mat4-alike}
@@ -24,7 +24,9 @@ use Rattle.resolve.specs.Slots.{kind_at, item_at}
 use Rattle.resolve.proofs.Records.{newest-same, item-alike}
 use Rattle.detect.specs.declared.count.Counts.{Counts}
 use Rattle.detect.specs.Counts.{match_share, two_share, plus_of, share_of}
-use Rattle.detect.specs.Records.{is_item_of, record_item, items_in, modes_in, Held}
+use Rattle.work.specs.Kinds.{is_item_of}
+use Rattle.detect.specs.Records.{record_item, items_in, modes_in}
+use Rattle.resolve.specs.Items.{ItemsBelow}
 use Rattle.detect.specs.Kept.{match_places, kept_place, match_kept, two_kept, record_kept, KeptAt, Kept, Counted}
 
 -- ---- floats that are the same where the items are
@@ -47,15 +49,10 @@ module _ (xs ys : List Float) (us : List ℕ) (same : Alike xs ys) where
   pub items_keep : (m : ℕ) → items_in ys us m ≡ items_in xs us m
   items_keep m = newest-same (item_at xs us) (item_at ys us) m (λ j l. item-alike xs ys us us j refl refl refl (same j))
 
--- what is read of the items stays, once they are counted
-pub held-counted : (xs : List Float) (us : List ℕ) (c : Counts) (ys : List Float) (m : ℕ) → Counted c xs ys us m → (n : ℕ) → Held xs us m n → Held ys us m n
-held-counted xs us c ys m k n h = record {
-  floats = omega (arith, h.floats, k.size);
-  marks = h.marks;
-  modes = h.modes;
-  few = h.few;
-  below = rw (items_keep xs ys us k.same m) h.below;
-}
+-- the items' wires stay, once they are counted
+pub below-counted : (xs : List Float) (us : List ℕ) (c : Counts) (ys : List Float) (m : ℕ) → Counted c xs ys us m → (n : ℕ) → ItemsBelow n (items_in xs us m)
+    → ItemsBelow n (items_in ys us m)
+below-counted xs us c ys m k n h = rw (items_keep xs ys us k.same m) h
 
 -- ---- an operation written from p on
 
@@ -82,14 +79,16 @@ module _ (p : ℕ) (l x : List Float) (long : length x ≡ op_places) (fit : p +
       ∙ take_at x (drop op_places (drop p l)) op_places long
 
 -- the places of an operation stay
-window-stays : (a : ℕ) (l m : List Float) → length m ≡ length l → a + op_places ≤ length l → ((q : ℕ) → a ≤ q → q < a + op_places → get_or m q nan ≡ get_or l q nan)
+window-stays : (a : ℕ) (l m : List Float) → length m ≡ length l → a + op_places ≤ length l
+    → ((q : ℕ) → a ≤ q → q < a + op_places → get_or m q nan ≡ get_or l q nan)
     → take op_places (drop a m) ≡ take op_places (drop a l)
 window-stays a l m e fit h =
     let long : (k : List Float) → a + op_places ≤ length k → length (take op_places (drop a k)) ≡ op_places =
     λ k f. length-take-le op_places (drop a k) (omega (arith, length-drop a k)) in
     let lm = long m (omega (arith, e)) in
     ext_get_or nan (take op_places (drop a m)) (take op_places (drop a l)) (lm ∙ sym (long l fit))
-    (λ i b. part_at a op_places m nan i (omega (arith, lm)) ∙ h (a + i) (omega arith) (omega (arith, lm)) ∙ sym (part_at a op_places l nan i (omega (arith, lm))))
+    (λ i b. part_at a op_places m nan i (omega (arith, lm)) ∙ h (a + i) (omega arith) (omega (arith, lm))
+    ∙ sym (part_at a op_places l nan i (omega (arith, lm))))
 
 -- ---- one record more
 
@@ -101,7 +100,7 @@ module _ (xs : List Float) (us : List ℕ) where
   module _ (c : Counts) (ys : List Float) (i : ℕ) (old : Counted c xs ys us i) where
     -- a record that is no matchgate's
     other : (mark_at us i kind_column ≢ 5) → Kept ys us i → Kept ys us (i + 1)
-    other n h j l = by (eq-or-ne j i)
+    other n h j l = by (cases_eq j i)
       where
         by : (j ≡ i) ⊎ (j ≢ i) → KeptAt ys us j
         by (inl e) q = absurd (n (ap (λ j. mark_at us j kind_column) (sym e) ∙ q))
@@ -163,7 +162,7 @@ module _ (xs : List Float) (us : List ℕ) where
         beside-written b = rw (e, b) refl
 
         outside : (j q : ℕ) → record_at j ≤ q → q < float_place j item_end → (q < kept_place i) ⊎ (kept_place i + op_places ≤ q)
-        outside j q lo hi = by (lt-or-le q (kept_place i)) (lt-or-le i j)
+        outside j q lo hi = by (cases_lt q (kept_place i)) (cases_lt i j)
           where
             by : (q < kept_place i) ⊎ (kept_place i ≤ q) → (i < j) ⊎ (j ≤ i) → (q < kept_place i) ⊎ (kept_place i + op_places ≤ q)
             by (inl h) g = inl h
@@ -174,7 +173,7 @@ module _ (xs : List Float) (us : List ℕ) where
         alike j q lo hi = paste-stays (kept_place i) ys op refl (omega arith) q (outside j q lo hi)
 
         kept_more : Kept ys us i → Kept new us (i + 1)
-        kept_more h j l k = by (eq-or-ne j i)
+        kept_more h j l k = by (cases_eq j i)
           where
             by : (j ≡ i) ⊎ (j ≢ i) → take op_places (drop (kept_place j) new)
                 ≡ match_places (modes_in us (mark_at us j a_column)) (modes_in us (mark_at us j b_column)) (matrix4_of new j)
@@ -194,7 +193,7 @@ module _ (xs : List Float) (us : List ℕ) where
         })
 
       pub counted-more : Counted (plus_of c share) xs (record_kept ys us i) us (i + 1)
-      counted-more = by (eq-or-ne (mark_at us i kind_column) 5)
+      counted-more = by (cases_eq (mark_at us i kind_column) 5)
         where
           either : (mark_at us i kind_column ≡ 5) → (t : Bool) → beside_of first second ≡ t → Counted (plus_of c share) xs (record_kept ys us i) us (i + 1)
           either e true b = good_more e b

@@ -1,12 +1,14 @@
 -- Operations in a slice: each has its places, and what is written one after the other is written at once. Assumes nothing.
 use mathlib.Core.Path.{◌≡◌, refl, sym, ap, ap₂, ◌∙◌}
 use mathlib.Core.List.{List, [], ◌∷◌, ◌++◌, append_assoc, append-nil}
-use Prim.Native.Nat.{ℕ, ◌+◌, ◌*◌, ◌≤◌}
-use native.Mathlib.Nat.{add-zero, add_assoc}
+use Prim.Native.Nat.{ℕ, ◌+◌, ◌-◌, ◌*◌, ◌≤◌}
+use native.Mathlib.Nat.{add-zero, zero-add, add_assoc}
 use native.Mathlib.Omega.{arith}
 use lib.ListN.{length, take, drop, length-append, length-drop}
 use lib.Seq.{length-take-le, take_all, take_at, drop-append-add, drop-drop, paste, paste-zero}
 use lib.Ieee.{Float}
+use borrow.Rule.Slice.PartMut.{put_mid}
+use Rattle.std.proofs.lemmas.List.{drop_all}
 use Rattle.laws.specs.Bounds.{op_places}
 use Rattle.detect.specs.Operation.{Operation, one, two, interaction, places_of, all_places, placed, Put}
 
@@ -99,3 +101,56 @@ module _ (p : ℕ) (l : List Float) (a b : List Operation) (room : p + length (a
 
   pub put_both : (m m' : List Float) (r s : ℕ) → Put a p l m r → Put b r m m' s → Put (a ++ b) p l m' s
   put_both m m' r s f g = put_then p l a m r f first-room b m' s g
+
+-- ---- on the rest of a slice
+
+module _ (p : ℕ) (l : List Float) where
+  abbrev pub rest_of : List Float
+  rest_of = take (length l - p) (drop p l)
+
+  module _ (h : p ≤ length l) where
+    rest-long : length (drop p l) ≡ length l - p
+    rest-long = length-drop p l
+
+    rest-is : rest_of ≡ drop p l
+    rest-is = take_all (length l - p) (drop p l) (omega (arith, rest-long))
+
+    pub rest-length : length rest_of ≡ length l - p
+    rest-length = ap length rest-is ∙ rest-long
+
+    rest-placed : (xs : List Float) → placed 0 xs rest_of ≡ xs ++ drop (length xs) (drop p l)
+    rest-placed xs = ap (λ z. placed 0 xs z) rest-is ∙ ap (λ k. xs ++ drop k (drop p l)) (zero-add (length xs))
+
+    -- what is written at the front of the rest is written from p on
+    pub put_rest : {os : List Operation} {m : List Float} {r : ℕ} → Put os 0 rest_of m r → Put os p l (put_mid p (length l - p) l m) (p + r)
+    put_rest {os = os} {m = m} f =
+        let xs = all_places os in
+        record {
+          is =
+              ap (λ z. take p l ++ (m ++ z)) (drop_all (length l - p) (drop p l) (omega (arith, rest-long)))
+              ∙ ap (λ z. take p l ++ z) (append-nil m ∙ f.is ∙ rest-placed xs)
+              ∙ sym (append_assoc (take p l) xs (drop (length xs) (drop p l)))
+              ∙ ap (λ z. take p l ++ xs ++ z) (drop-drop (length xs) p l);
+          next = ap (λ k. p + k) (f.next ∙ zero-add (length xs));
+        }
+
+-- operations at the front, and then others on the rest
+module _ (l : List Float) (a b : List Operation) (room : length (all_places (a ++ b)) ≤ length l) where
+  all-room : 0 + length (all_places (a ++ b)) ≤ length l
+  all-room = omega (arith, room)
+
+  pub front-room : length (all_places a) ≤ length l
+  front-room = omega (arith, first-room 0 l a b all-room)
+
+  module _ {m : List Float} {p : ℕ} (f : Put a 0 l m p) where
+    pub rest-there : p + length (all_places b) ≤ length m
+    rest-there = next-room 0 l a b all-room m p f
+
+    there : p ≤ length m
+    there = omega (arith, rest-there)
+
+    pub rest-room : length (all_places b) ≤ length (rest_of p m)
+    rest-room = omega (arith, rest-there, rest-length p m there)
+
+    pub put_next : {m' : List Float} {s : ℕ} → Put b 0 (rest_of p m) m' s → Put (a ++ b) 0 l (put_mid p (length m - p) m m') (p + s)
+    put_next {m' = m'} {s = s} g = put_both 0 l a b all-room m (put_mid p (length m - p) m m') p (p + s) f (put_rest p m there g)

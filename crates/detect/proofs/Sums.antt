@@ -1,15 +1,15 @@
 -- The counts of the items: blocks = Gaussian + bad + interactions, what is counted is little, and one item more. Assumes nothing.
 use mathlib.Core.Path.{◌≡◌, refl}
-use mathlib.Core.Bool.{Bool, true, false, cond}
+use mathlib.Core.Bool.{Bool, true}
 use mathlib.Core.List.{List, [], ◌∷◌}
 use Prim.Native.Nat.{ℕ, suc, ◌+◌, ◌*◌, ◌≤◌, ◌<◌}
 use native.Mathlib.Omega.{arith}
 use lib.ListN.{length}
 use lib.Ieee.{Float, le}
+use Rattle.std.proofs.lemmas.Bool.{cond_both}
 use Rattle.gate.specs.declared.matrix.Mat4.{Mat4}
 use Rattle.order.specs.Arrangement.{beside_of}
-use Rattle.majorana.specs.Majorana.{majorana_map1_of, majorana_map2_of}
-use Rattle.majorana.specs.Numbers.{commutes_j2_of}
+use Rattle.majorana.specs.Majorana.{majorana_map1_of}
 use Rattle.majorana.specs.declared.maps.Mapped.{Mapped}
 use Rattle.classify.specs.Diagonal.{phase_a_of, phase_b_of, rotation_of}
 use Rattle.std.specs.Prelude.{Option, Some, None}
@@ -17,8 +17,7 @@ use Rattle.real.specs.declared.maps.Map2.{Map2}
 use Rattle.resolve.specs.Items as Items
 use Rattle.resolve.specs.Items.{Item, ItemKind}
 use Rattle.detect.specs.declared.count.Counts.{Counts}
-use Rattle.detect.specs.Emit.{oriented_of}
-use Rattle.detect.specs.Counts.{gaussian, bad, apart, one_share, adjacent_share, match_share, turned, turns_in, two_share, none, plus_of, share_of, counted_onto, counts_of}
+use Rattle.detect.specs.Counts.{gaussian, bad, one_share, adjacent_share, match_share, turned, turns_in, two_share, none, plus_of, share_of, counted_onto, counts_of}
 use Rattle.detect.specs.Records.{Small}
 
 -- "blocks = Gaussian + bad + interactions", of so many items
@@ -39,19 +38,16 @@ bad-adds two ops r h g = record { blocks = refl; items = refl; two = h; nonadjac
 
 one-adds : (tol : Float) (m : Mapped Map2) → Adds (one_share tol m) 1
 unfolding one_share
-one-adds tol m = go (le m.residual tol)
-  where
-    go : (t : Bool) → Adds (cond t (gaussian 0 1 m.residual (commutes_j2_of m.q)) (bad 0 1 m.residual)) 1
-    go true = gaussian-adds 0 1 m.residual _ (omega arith) (omega arith)
-    go false = bad-adds 0 1 m.residual (omega arith) (omega arith)
+one-adds tol m =
+    cond_both (le m.residual tol) _ _ (λ z. Adds z 1)
+    (λ _. gaussian-adds 0 1 m.residual _ (omega arith) (omega arith)) (λ _. bad-adds 0 1 m.residual (omega arith) (omega arith))
 
 match-adds : (i j : ℕ) (r : Float) (v : Mat4) → Adds (match_share i j r v) 1
 unfolding match_share adjacent_share
-match-adds i j r v = go (beside_of i j)
-  where
-    go : (t : Bool) → Adds (cond t (adjacent_share r (majorana_map2_of (oriented_of i j v))) apart) 1
-    go true = gaussian-adds 1 1 _ _ (omega arith) (omega arith)
-    go false = record { blocks = refl; items = refl; two = omega arith; nonadjacent = omega arith; operations = omega arith }
+match-adds i j r v =
+    cond_both (beside_of i j) _ _ (λ z. Adds z 1)
+    (λ _. gaussian-adds 1 1 _ _ (omega arith) (omega arith))
+    (λ _. record { blocks = refl; items = refl; two = omega arith; nonadjacent = omega arith; operations = omega arith })
 
 pub turns-few : (v : Mat4) → turns_in v ≤ 2
 unfolding turns_in

@@ -3,7 +3,8 @@
 use Rattle.std.specs.Prelude.{Bool, cond, List, [], ◌∷◌, ◌++◌, ℕ, ◌/◌, ◌%◌, eqb, get_or}
 use Rattle.tape.specs.declared.header.Header.{Header}
 use Rattle.tape.specs.declared.gates.Gate.{Gate}
-use Rattle.order.specs.Weights.{Pair, pair_of}
+use Rattle.order.specs.declared.edges.Pair.{Pair}
+use Rattle.order.specs.Weights.{pair_of}
 use Rattle.order.specs.Arrangement.{find}
 use Rattle.order.specs.Choice.{Arrangement, choose_order_of}
 use Rattle.fuse.specs.Relabel.{Labelled, labelled, unlabelled}

@@ -12,3 +12,4 @@ pub mod Questions
 pub mod Told
 pub mod Lending
 pub mod Program
+pub mod Lent

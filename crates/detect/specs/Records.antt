@@ -1,11 +1,7 @@
 -- The items in the lent work as the passes over them read them. Assumes nothing. Only inner functions rest on this.
-use Rattle.std.specs.Prelude.{Bool, cond, Option, None, ◌&&◌, List, ℕ, ◌+◌, ◌*◌, ◌<◌, ◌≤◌, eqb, leb, Float}
-use Rattle.laws.specs.Bounds.{max_qubits}
-use Rattle.work.specs.Rows.{Floats, FloatsAt}
-use Rattle.work.specs.Marks.{mark_at, column, Records}
+use Rattle.std.specs.Prelude.{cond, List, ℕ, ◌*◌, ◌<◌, eqb, Float}
+use Rattle.work.specs.Marks.{mark_at, column}
 use Rattle.work.specs.Columns.{kind_column, a_column, b_column, lab_column, content_column, order_column, pos_column, start_column, one_item, opaque_item}
-use Rattle.work.specs.Kinds.{kind_of}
-use Rattle.work.specs.declared.kinds.Kind.{Kind}
 use Rattle.fuse.specs.Layout.{matrix2_of, matrix4_of}
 use Rattle.detect.specs.declared.count.Counts.{Counts}
 use Rattle.detect.specs.declared.tables.Tables.{Tables}
@@ -13,14 +9,6 @@ use Rattle.detect.specs.Report.{table}
 use Rattle.resolve.specs.Items as Items
 use Rattle.resolve.specs.Items.{Item, newest_first, ItemBelow, ItemsBelow}
 use Rattle.resolve.specs.Slots.{kind_at, residual_at, item_at}
-
--- record i holds an item
-abbrev pub is_item_of : ℕ → Bool
-is_item_of k = leb one_item k && leb k opaque_item
-
--- the kind of the item that a record with this mark holds
-unfoldable pub item_kind_of : ℕ → Option Kind
-item_kind_of k = cond (is_item_of k) (kind_of k) None
 
 -- the item of a record of kind k
 abbrev pub item_by : ℕ → Item → Item → Item
@@ -57,32 +45,6 @@ pub record Small (c : Counts) : Type 0 where
   pub interactions : c.interactions < 65536
   pub operations : c.operations < 3 * 65536
 
--- m records are there, n wires too, and the items' wires are such
-pub record Held (xs : List Float) (us : List ℕ) (m n : ℕ) : Type 0 where
-  pub floats : Floats xs m
-  pub marks : Records us m
-  pub modes : Records us n
-  pub few : m < 65536
-  pub below : ItemsBelow n (items_in xs us m)
-
--- the item of record i can be read: its places and those of its wires are there
-abbrev pub ItemThere : List Float → List ℕ → ℕ → ℕ → Type 0
-ItemThere xs us i n = FloatsAt xs i × Records us (i + 1) × Records us n × ItemBelow n (record_item xs us i)
-
--- slots, content and modes of n qubits can be read, for a table
-abbrev pub QubitsThere : List ℕ → ℕ → Type 0
-QubitsThere us n =
-    Records us n × (n ≤ max_qubits) × ColumnBelow us lab_column n n × ColumnBelow us content_column n n × ColumnBelow us pos_column n n
-
--- order and path starts too
-pub record TablesThere (us : List ℕ) (n : ℕ) : Type 0 where
-  pub qubits : QubitsThere us n
-  pub order : ColumnBelow us order_column n 65536
-  pub starts : ColumnBelow us start_column n 65536
-
+-- order, path starts and modes of n qubits
 abbrev pub tables_of : List ℕ → ℕ → Tables
 tables_of us n = record { order = table n (column order_column us); starts = table n (column start_column us); modes = table n (qubit_mode us) }
-
--- for qubit q
-abbrev pub QubitThere : List ℕ → ℕ → ℕ → Type 0
-QubitThere us n q = (q < n) × Records us n × ColumnBelow us lab_column n n × ColumnBelow us content_column n n × ColumnBelow us pos_column n n

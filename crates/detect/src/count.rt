@@ -1,24 +1,25 @@
 // The report's counts: each item's share, and their sum in item order.
-ghost use Rattle.std.specs.Prelude.{◌≡◌, ◌+◌, ◌≤◌, ◌<◌, length};
-ghost use Rattle.laws.specs.Bounds.{op_places};
+ghost use Rattle.std.specs.Prelude.{◌≡◌, ◌≤◌, ◌<◌};
+ghost use Rattle.work.specs.Sizes.{record_marks};
 ghost use Rattle.work.specs.Columns.{kind_column};
 ghost use Rattle.work.specs.Kinds.{kind_number};
-ghost use Rattle.work.specs.Marks.{mark_at, mark_place, Records};
+ghost use Rattle.work.specs.Marks.{mark_at};
+ghost use Rattle.work.specs.Lent.{Has, with_floats};
 ghost use Rattle.order.specs.Arrangement.{beside_of};
 ghost use Rattle.resolve.specs.Slots.{kind_at};
 ghost use Rattle.detect.specs.Emit.{oriented_of, lower_of};
 ghost use Rattle.detect.specs.Counts.{gaussian, bad, one_share, match_share, turns_in, two_share, plus_of, share_of, counts_of};
-ghost use Rattle.detect.specs.Records.{is_item_of, item_kind_of, record_item, items_in, modes_in, ItemThere, Held, Small};
-ghost use Rattle.detect.specs.Kept.{match_kept, two_kept, record_kept, Counted};
+ghost use Rattle.detect.specs.Records.{record_item, modes_in, Small};
+ghost use Rattle.detect.specs.Kept.{kept_place, match_kept, two_kept, record_kept};
+ghost use Rattle.detect.specs.Lent.{all_items, Held, ItemThere, CountsAll};
 
-use crate::places::{put, two_places};
+use crate::places::two_places;
 use classify::{phase_a, phase_b, rotation_of};
-use fuse::matrix;
 use gate::{Mat4, mat4_swap_qubits};
 use majorana::{Mapped, commutes_j2, majorana_map1, majorana_map2, number_conserving4};
 use real::Map2;
 use std::ops::Add;
-use work::{A, B, KEPT, Kind, POS, RECORD_FLOATS, RESIDUAL, kind_at, mark};
+use work::{A, B, KEPT, Kind, POS, RESIDUAL, Work};
 
 // Blocks, those on two wires, what they are, the operations that they become, the largest residual, and whether all commute with the particle number.
 #[derive(Clone, Copy)]
@@ -75,6 +76,7 @@ fn bad_share(two: u32, operations: u32, residual: f64) -> Counts
     }
 }
 
+#[tactic(auto, using(std::proofs::lemmas::Bool::Decides::nat_tests), unfolding(crate::specs::Counts::one_share))]
 fn one_share(tol: f64, m: Mapped<Map2>) -> Counts
     ensures { result ≡ one_share tol m }
 {
@@ -106,17 +108,18 @@ fn lower(i: u32, j: u32) -> u32
     i.min(j)
 }
 
-// A matchgate on the modes i and j. If they are neighbours its operation is kept in w, from `at` on: emission needs the same map.
+// A matchgate on the modes a and b. If they are neighbours its operation is kept in record i, from KEPT on: emission needs the same map.
+// Two modes are passed as two numbers, here and in emit.rt: nothing is true of the pair.
 #[tactic(auto, using(std::proofs::lemmas::Bool::Decides::nat_tests), unfolding(crate::specs::Counts::match_share, crate::specs::Counts::adjacent_share))]
-fn match_share(w: &mut [f64], at: usize, i: u32, j: u32, residual: f64, v: Mat4) -> Counts
-    requires { at + op_places ≤ length w.old }
-    ensures share { result ≡ match_share i j residual v }
-    ensures kept { w.new ≡ match_kept at i j v w.old }
+fn match_share(work: &mut Work, i: usize, a: u32, b: u32, residual: f64, v: Mat4) -> Counts
+    requires { Has work.old i }
+    ensures share { result ≡ match_share a b residual v }
+    ensures kept { work.new ≡ with_floats work.old (match_kept (kept_place i) a b v work.old.floats) }
 {
-    if beside(i, j) {
-        let m = majorana_map2(oriented(i, j, v));
+    if beside(a, b) {
+        let m = majorana_map2(oriented(a, b, v));
         let conserving = number_conserving4(m.q);
-        put(w, at, two_places(lower(i, j), m.q));
+        work.put_places(i, KEPT, &two_places(lower(a, b), m.q));
         return gaussian_share(1, 1, num::max(m.residual, residual), conserving);
     }
     Counts {
@@ -134,14 +137,23 @@ fn turns_in(v: Mat4) -> u32
     u32::from(a) + u32::from(b)
 }
 
-// A block on the modes i and j; of a matchgate the operation is kept from `at` on.
-fn two_share(w: &mut [f64], at: usize, kind: Kind, i: u32, j: u32, residual: f64, v: Mat4) -> Counts
-    requires { at + op_places ≤ length w.old }
-    ensures share { result ≡ two_share (kind_at (kind_number kind)) i j residual v }
-    ensures kept { w.new ≡ two_kept (kind_number kind) at i j v w.old }
+// A block on the modes a and b; of a matchgate the operation is kept in record i.
+#[tactic(auto, using(crate::proofs::Items::neither), unfolding(crate::specs::Counts::two_share, crate::specs::Kept::two_kept, resolve::specs::Slots::kind_at))]
+fn two_share(
+    work: &mut Work,
+    i: usize,
+    kind: Kind,
+    a: u32,
+    b: u32,
+    residual: f64,
+    v: Mat4,
+) -> Counts
+    requires { Has work.old i }
+    ensures share { result ≡ two_share (kind_at (kind_number kind)) a b residual v }
+    ensures kept { work.new ≡ with_floats work.old (two_kept (kind_number kind) (kept_place i) a b v work.old.floats) }
 {
     match kind {
-        Kind::MatchItem => match_share(w, at, i, j, residual, v),
+        Kind::MatchItem => match_share(work, i, a, b, residual, v),
         Kind::DiagonalItem => gaussian_share(1, turns_in(v), 0.0, true),
         Kind::InteractionItem => Counts {
             blocks: 1,
@@ -179,64 +191,46 @@ impl Add for Counts {
     }
 }
 
-fn is_item(kind: Kind) -> bool
-    ensures { result ≡ is_item_of (kind_number kind) }
-{
-    !matches!(kind, Kind::Gone | Kind::One | Kind::Two | Kind::Three)
-}
-
-// The kind of the item in record i, if it holds one.
-pub fn item_kind(u: &[u32], i: usize) -> Option<Kind>
-    requires { mark_place i kind_column < length u.now }
-    ensures { result ≡ item_kind_of (mark_at u.now i kind_column) }
-{
-    match kind_at(u, i) {
-        Some(kind) if is_item(kind) => Some(kind),
-        _ => None,
-    }
-}
-
 // The mode of the wire that stands in column c of record i.
-pub fn wire_mode(u: &[u32], i: usize, c: usize, n: usize) -> u32
-    requires there { mark_place i c < length u.now }
-    requires modes { Records u.now n }
-    requires below { mark_at u.now i c < n }
-    ensures { result ≡ modes_in u.now (mark_at u.now i c) }
+pub fn wire_mode(work: &Work, i: usize, c: usize) -> u32
+    requires there { Has work.now i × (c < record_marks) }
+    requires below { mark_at work.now.marks i c < work.now.slots }
+    ensures { result ≡ modes_in work.now.marks (mark_at work.now.marks i c) }
 {
-    mark(u, mark(u, i, c) as usize, POS)
+    work.mark(work.mark(i, c) as usize, POS)
 }
 
 // The share of the item in record i, which is of this kind.
-fn share_at(w: &mut [f64], u: &[u32], i: usize, kind: Kind, n: usize, tol: f64) -> Counts
-    requires there { ItemThere w.old u.now i n }
-    requires kind { mark_at u.now i kind_column ≡ kind_number kind }
-    ensures share { result ≡ share_of tol (modes_in u.now) (record_item w.old u.now i) }
-    ensures kept { w.new ≡ record_kept w.old u.now i }
+#[tactic(auto, unfolding(crate::specs::Kept::two_kept))]
+fn share_at(work: &mut Work, i: usize, kind: Kind, tol: f64) -> Counts
+    requires there { ItemThere work.old i }
+    requires kind { mark_at work.old.marks i kind_column ≡ kind_number kind }
+    ensures share { result ≡ share_of tol (modes_in work.old.marks) (record_item work.old.floats work.old.marks i) }
+    ensures kept { work.new ≡ with_floats work.old (record_kept work.old.floats work.old.marks i) }
 {
     match kind {
-        Kind::OneItem => one_share(tol, majorana_map1(matrix(w, i))),
+        Kind::OneItem => one_share(tol, majorana_map1(work.matrix(i))),
         Kind::OpaqueItem => bad_share(0, 0, 1.0),
         _ => {
-            let p = wire_mode(u, i, A, n);
-            let q = wire_mode(u, i, B, n);
-            let at = RECORD_FLOATS * i;
-            let residual = w[at + RESIDUAL];
-            let v = matrix(w, i);
-            two_share(w, at + KEPT, kind, p, q, residual, v)
+            let a = wire_mode(work, i, A);
+            let b = wire_mode(work, i, B);
+            let residual = work.float(i, RESIDUAL);
+            let v = work.matrix(i);
+            two_share(work, i, kind, a, b, residual, v)
         }
     }
 }
 
-// The items of the first m records, on n wires; the operations of matchgates are kept in their records.
-pub fn count_all(w: &mut [f64], u: &[u32], m: usize, n: usize, tol: f64) -> Counts
-    requires { Held w.old u.now m n }
-    ensures counts { result ≡ counts_of tol (modes_in u.now) (items_in w.old u.now m) }
-    ensures kept { Counted result w.old w.new u.now m }
+// All items; the operations of matchgates are kept in their records.
+pub fn count_all(work: &mut Work, tol: f64) -> Counts
+    requires { Held work.old }
+    ensures counts { result ≡ counts_of tol (modes_in work.old.marks) (all_items work.old) }
+    ensures kept { CountsAll result work.old work.new }
 {
     let mut c = NONE;
-    for i in 0..m {
-        if let Some(kind) = item_kind(u, i) {
-            c = c + share_at(w, u, i, kind, n, tol);
+    for i in 0..work.gates() + work.slots() {
+        if let Some(kind) = work.item_kind(i) {
+            c = c + share_at(work, i, kind, tol);
         }
     }
     c

@@ -1,5 +1,5 @@
-// The places of an operation, and how they are written.
-ghost use Rattle.std.specs.Prelude.{◌≡◌, ◌+◌, ◌≤◌, length, drop};
+// The places of an operation, and how they are written. Its kind, 1.0 to 3.0, is a float like the rest: the slice is C's.
+ghost use Rattle.std.specs.Prelude.{◌≡◌, ◌≤◌, length};
 ghost use Rattle.std.proofs.Math.Seq.{paste};
 ghost use Rattle.laws.specs.Bounds.{op_places};
 ghost use Rattle.detect.specs.Operation.{one_places, two_places, interaction_places};
@@ -43,18 +43,12 @@ pub fn interaction_places(i: u32, block: u32, j: u32, w: Complex) -> [f64; OP_PL
     ]
 }
 
-// Copies the places of an operation, from a of x, to p of l.
-pub fn copy(x: &[f64], a: usize, l: &mut [f64], p: usize)
-    requires { (a + op_places ≤ length x.now) × (p + op_places ≤ length l.old) }
-    ensures { l.new ≡ paste l.old p (drop a x.now) op_places }
+// Writes an operation's places at the front of l; how many they are.
+pub fn put(l: &mut [f64], x: &[f64]) -> usize
+    requires { (length x.now ≡ op_places) × (op_places ≤ length l.old) }
+    ensures put { l.new ≡ paste l.old 0 x.now op_places }
+    ensures count { result ≡ op_places }
 {
-    l[p..p + OP_PLACES].copy_from_slice(&x[a..a + OP_PLACES]);
-}
-
-// Writes an operation's places from p on.
-pub fn put(l: &mut [f64], p: usize, x: [f64; OP_PLACES])
-    requires { (p + op_places ≤ length l.old) × (length x ≡ op_places) }
-    ensures { l.new ≡ paste l.old p x op_places }
-{
-    copy(&x, 0, l, p);
+    l[..OP_PLACES].copy_from_slice(x);
+    OP_PLACES
 }

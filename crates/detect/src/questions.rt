@@ -1,14 +1,12 @@
-// The questions 1 to 10, the report and the operations.
-ghost use Rattle.std.specs.Prelude.{◌≡◌, ℕ, true, cond, ◌*◌, ◌≤◌, length, Result, Ok, Err};
+// The questions 1 to 10, the report and the operations. What is asked of a judge (`callable`, `room`) stands at each
+// function that takes one: a closure has no field that could say it. Tape, work, marks and operations come one by one, as C hands them over.
+ghost use Rattle.std.specs.Prelude.{◌≡◌, ◌*◌, ◌≤◌, length, Result, Ok, Err};
 ghost use Rattle.laws.specs.Slices.{filled};
 ghost use Rattle.laws.specs.Bounds.{max_qubits, op_places};
 ghost use Rattle.gate.specs.Complex.{f0};
 ghost use Rattle.tape.specs.Parse.{Content, content_of, parse};
-ghost use Rattle.detect.specs.Operation.{all_places, written};
-ghost use Rattle.detect.specs.Emit.{operations_in};
-ghost use Rattle.detect.specs.Records.{Held};
-ghost use Rattle.detect.specs.Kept.{Kept};
 ghost use Rattle.detect.specs.Lending.{Lent};
+ghost use Rattle.detect.specs.Lent.{WorkFor};
 ghost use Rattle.detect.specs.Questions.{Asked, answer_of, ops_after, asked_from, asked_ten, compiled, compiled_work, compiled_marks, compiled_ops};
 ghost use Rattle.detect.specs.Told.{told, ten_of, AfterNine, JudgedAs, Judges, Leaves};
 
@@ -19,19 +17,31 @@ use crate::program::detect;
 use crate::refusal::Refusal;
 use crate::report::Report;
 use tape::{Contents, Header, check_tape};
+use work::Work;
 
-// The operations of the first m records, if they are wanted.
-fn emit(wanted: bool, w: &[f64], u: &[u32], m: usize, n: usize, ops: &mut [f64])
-    requires held { Held w.now u.now m n × (wanted ≡ true → Kept w.now u.now m) }
-    requires m_in_bounds { wanted ≡ true → length (all_places (operations_in w.now u.now m)) ≤ length ops.old }
-    ensures { ops.new ≡ cond wanted (written (operations_in w.now u.now m) ops.old) ops.old }
+// Report, judgement and, if it is yes and no block is bad, operations.
+fn answer<J: FnOnce(Header, Report) -> Result<(), Refusal>>(
+    tape: &[u8],
+    h: Header,
+    work: &mut Work,
+    ops: &mut [f64],
+    judge: J,
+) -> Result<Report, Refusal>
+    requires tape { WorkFor tape.now h work.old }
+    requires callable { (r : Report) → J.pre judge h r }
+    requires room { (r : Report) → J.post judge h r (Ok tt) → op_places * r.operations ≤ length ops.old }
+    ensures { (x : Asked) → JudgedAs (J.post judge) h (content_of (parse tape.now)) x
+        → (told result ≡ answer_of x) × (ops.new ≡ ops_after x ops.old) × AfterNine x h (content_of (parse tape.now)) }
 {
-    if wanted {
-        emit_all(w, u, m, n, ops);
+    let r = detect(tape, h, work);
+    judge(h, r)?;
+    if r.free {
+        emit_all(work, ops);
     }
+    Ok(r)
 }
 
-// Report, judgement, operations: what is lent is exactly the work of the tape's gates and qubits, and is zero afterwards.
+// The same in slices: what is lent is exactly the work of the tape's gates and qubits, and is zero afterwards.
 fn compile_in<J: FnOnce(Header, Report) -> Result<(), Refusal>>(
     tape: &[u8],
     c: Contents,
@@ -48,14 +58,12 @@ fn compile_in<J: FnOnce(Header, Report) -> Result<(), Refusal>>(
     ensures work { w.new ≡ filled (length w.old) f0 w.old }
     ensures marks { u.new ≡ filled (length u.old) 0 u.old }
 {
-    let r = detect(tape, c, w, u);
-    let judged = judge(c.header, r);
-    let wanted = judged.is_ok() & r.free;
-    emit(wanted, w, u, c.gates + c.header.n, c.header.n, ops);
+    let h = c.header;
+    let mut work = Work::over(&mut *w, &mut *u, c.gates, h.n);
+    let report = answer(tape, h, &mut work, ops, judge);
     w.fill(0.0);
     u.fill(0);
-    judged?;
-    Ok(r)
+    report
 }
 
 // The questions 1 to 9 and then those that the judge asks of the header and the report; if none has no for an answer, the operations. `work` and `marks`

@@ -26,7 +26,7 @@ impl From<Fault> for Refusal {
 }
 
 impl Refusal {
-    // The question's number.
+    // The question's number, by a match and not by a cast: one case holds a fault.
     pub fn number(self) -> u32
         ensures { result ≡ question_of self }
     {
@@ -42,7 +42,7 @@ impl Refusal {
         }
     }
 
-    // The offset of a record that is at fault, else 0.
+    // The offset of a record that is at fault, else 0, as the format's answer has it.
     pub fn place(self) -> usize
         ensures { result ≡ offset_of self }
     {

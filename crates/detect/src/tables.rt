@@ -1,13 +1,14 @@
-// Order, path starts and modes of the qubits as tables of fixed length.
+// Order, path starts and modes of the qubits as tables of fixed length. A report is copied and laid out whole for C: arrays of fixed length, no heap.
 ghost use Rattle.std.specs.Prelude.{ℕ, ◌≡◌, ◌<◌, ◌≤◌};
 ghost use Rattle.laws.specs.Bounds.{max_qubits};
 ghost use Rattle.work.specs.Sizes.{record_marks};
-ghost use Rattle.work.specs.Marks.{Records, column};
+ghost use Rattle.work.specs.Marks.{column};
 ghost use Rattle.detect.specs.Report.{table};
-ghost use Rattle.detect.specs.Records.{qubit_mode, ColumnBelow, QubitThere, QubitsThere, TablesThere, tables_of};
+ghost use Rattle.detect.specs.Records.{qubit_mode, tables_of, ColumnBelow};
+ghost use Rattle.detect.specs.Lent.{QubitsThere, TablesThere};
 
 use laws::MAX_QUBITS;
-use work::{CONTENT, LAB, ORDER, POS, START, mark};
+use work::{CONTENT, LAB, ORDER, POS, START, Work};
 
 // The wire on each mode, whether a path starts there, the mode of each qubit.
 #[derive(Clone, Copy)]
@@ -31,41 +32,42 @@ fn table<F: Fn(usize) -> u32>(n: usize, entry: F) -> [u16; MAX_QUBITS]
     t
 }
 
-// The first n marks of column c: the wire on each mode, the path starts.
-fn column_table(u: &[u32], n: usize, c: usize) -> [u16; MAX_QUBITS]
-    requires { Records u.now n × (n ≤ max_qubits) × (c < record_marks) × ColumnBelow u.now c n 65536 }
-    ensures { result ≡ table n (column c u.now) }
+// The first marks of column c: the wire on each mode, the path starts.
+fn column_table(work: &Work, c: usize) -> [u16; MAX_QUBITS]
+    requires few { work.now.slots ≤ max_qubits }
+    requires column { (c < record_marks) × ColumnBelow work.now.marks c work.now.slots 65536 }
+    ensures { result ≡ table work.now.slots (column c work.now.marks) }
 {
-    table(n, |k| mark(u, k, c))
+    table(work.slots(), |k| work.mark(k, c))
 }
 
 // The mode of qubit q: of the wire that is in its slot.
-fn mode_of_qubit(u: &[u32], n: usize, q: usize) -> u32
-    requires { QubitThere u.now n q }
-    ensures { (result ≡ qubit_mode u.now q) × (result < n) }
+fn mode_of_qubit(work: &Work, q: usize) -> u32
+    requires { QubitsThere work.now × (q < work.now.slots) }
+    ensures { (result ≡ qubit_mode work.now.marks q) × (result < work.now.slots) }
 {
-    let s = mark(u, q, LAB) as usize;
-    let w = mark(u, s, CONTENT) as usize;
-    mark(u, w, POS)
+    let s = work.mark(q, LAB) as usize;
+    let w = work.mark(s, CONTENT) as usize;
+    work.mark(w, POS)
 }
 
 // The mode of each qubit.
-fn mode_table(u: &[u32], n: usize) -> [u16; MAX_QUBITS]
-    requires { QubitsThere u.now n }
-    ensures { result ≡ table n (qubit_mode u.now) }
+fn mode_table(work: &Work) -> [u16; MAX_QUBITS]
+    requires { QubitsThere work.now }
+    ensures { result ≡ table work.now.slots (qubit_mode work.now.marks) }
 {
-    table(n, |q| mode_of_qubit(u, n, q))
+    table(work.slots(), |q| mode_of_qubit(work, q))
 }
 
 impl Tables {
-    pub fn of(u: &[u32], n: usize) -> Tables
-        requires { TablesThere u.now n }
-        ensures { result ≡ tables_of u.now n }
+    pub fn of(work: &Work) -> Tables
+        requires { TablesThere work.now }
+        ensures { result ≡ tables_of work.now.marks work.now.slots }
     {
         Tables {
-            order: column_table(u, n, ORDER),
-            starts: column_table(u, n, START),
-            modes: mode_table(u, n),
+            order: column_table(work, ORDER),
+            starts: column_table(work, START),
+            modes: mode_table(work),
         }
     }
 }

@@ -1,4 +1,5 @@
-// An answer as plain numbers: what C and the replay programs are told.
+// An answer as plain numbers: what C and the replay programs are told. Beside `state::Told`: each crate's definition has its own struct, and neither crate
+// needs the other.
 ghost use Rattle.std.specs.Prelude.{◌≡◌};
 ghost use Rattle.detect.specs.Told.{told, numbers};
 

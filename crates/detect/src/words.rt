@@ -12,7 +12,7 @@ pub const REPORT_MEASURES: usize = 2;
 
 pub const REPORT_TABLES: usize = 3;
 
-// The ordering as a word. No `From`, since both types are of other crates.
+// The ordering as a word. No `From` in crate order: its number is a word of the report, which is defined here.
 fn ordering_word(o: Ordering) -> u64
     ensures { result ≡ ordering_word o }
 {

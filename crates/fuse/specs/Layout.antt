@@ -5,32 +5,17 @@ use Rattle.laws.specs.Views.{between, seek, Step, Pass}
 use Rattle.gate.specs.Lent.{mat2_at, mat4_at, store2_of, store4_of}
 use Rattle.gate.specs.declared.matrix.Mat2.{Mat2}
 use Rattle.gate.specs.declared.matrix.Mat4.{Mat4}
-use Rattle.work.specs.Rows.{record_at, Floats}
-use Rattle.work.specs.Marks.{mark_at, put_mark, Records, Only}
+use Rattle.work.specs.Rows.{record_at}
+use Rattle.work.specs.Marks.{mark_at, Only}
 use Rattle.work.specs.Columns.{kind_column, a_column, b_column, c_column, one_kind, two_kind, three_kind}
 use Rattle.fuse.specs.Events.{Event, gone, one, two, three, clear}
 use Rattle.fuse.specs.Fuse.{grown}
-
--- the places of g gates are there
-pub record Room (xs : List Float) (us : List ℕ) (g : ℕ) : Type 0 where
-  pub floats : Floats xs g
-  pub marks : Records us g
-
--- g gates and n slots have their records
-pub record Space (xs : List Float) (us : List ℕ) (g n : ℕ) : Type 0 where
-  pub floats : Floats xs (g + n)
-  pub marks : Records us (g + n)
-  pub few : g + n < 65536
 
 -- the slots of the gates from i on are slots
 pub record Within (us : List ℕ) (i g n : ℕ) : Type 0 where
   pub a : (j : ℕ) → i ≤ j → j < g → mark_at us j a_column < n
   pub b : (j : ℕ) → i ≤ j → j < g → mark_at us j b_column < n
   pub c : (j : ℕ) → i ≤ j → j < g → mark_at us j c_column < n
-
--- the marks of two records in a column, exchanged
-unfoldable pub exchanged_marks : List ℕ → ℕ → ℕ → ℕ → List ℕ
-exchanged_marks us a b c = put_mark (put_mark us a c (mark_at us b c)) b c (mark_at us a c)
 
 -- ---- the matrix of a record
 

@@ -7,3 +7,4 @@ pub mod Compress
 pub mod Passes
 pub mod Layout
 pub mod Slotted
+pub mod Lent

@@ -10,7 +10,8 @@ use Rattle.tape.specs.Cursor.{Cursor}
 use Rattle.tape.specs.Good.{GoodGate}
 use Rattle.tape.specs.Parse.{gates_of}
 use Rattle.tape.specs.declared.gates.Gate.{Gate}
-use Rattle.fuse.specs.Layout.{Space, Within, event_at, exchanged_marks}
+use Rattle.fuse.specs.Layout.{Within, event_at}
+use Rattle.work.specs.Marks.{exchanged_marks}
 use Rattle.fuse.specs.Relabel.{Labelled, label, labelled, unlabelled}
 
 -- the state after k gates
@@ -20,13 +21,6 @@ labelled_at xs us n k swaps = record { lab = list_of n (λ q. mark_at us q lab_c
 -- the slots of the qubits are slots
 pub record Labels (us : List ℕ) (n : ℕ) : Type 0 where
   pub below : (q : ℕ) → q < n → mark_at us q lab_column < n
-
--- the first k gates are events, and gate k is the next
-pub record NextGate (xs : List Float) (us : List ℕ) (g n k : ℕ) : Type 0 where
-  pub space : Space xs us g n
-  pub left : k < g
-  pub labels : Labels us n
-  pub within : Within us 0 k n
 
 -- the marks of an event, and the slots of two qubits exchanged
 unfoldable pub event_marks : List ℕ → ℕ → ℕ → ℕ → ℕ → ℕ → List ℕ

@@ -4,7 +4,7 @@
 
 #![tactic(auto)]
 
-mod records; // matrices of a record, and tests on its marks
+mod records; // tests on the marks of a record
 mod relabel; // the gates of a tape as events on slots
 mod passes; // a pass over all events
 mod back; // looking back from a gate
@@ -13,6 +13,6 @@ mod runs; // runs of diagonal one-qubit gates into one
 
 pub use blocks::Blocks;
 pub use passes::{Pass, run_pass};
-pub use records::{block_on, exchange_marks, matrix, one_on, put_matrix};
+pub use records::{block_on, one_on};
 pub use relabel::relabel_all;
 pub use runs::Runs;

@@ -1,8 +1,11 @@
 // A pass over all events in time order.
-ghost use Rattle.std.specs.Prelude.{List, ◌+◌};
+ghost use Rattle.std.specs.Prelude.{List};
+ghost use Rattle.work.specs.Lent.{Has};
 ghost use Rattle.fuse.specs.Events.{Event};
 ghost use Rattle.fuse.specs.Passes.{PassLaws};
-ghost use Rattle.fuse.specs.Layout.{Room, Stepped, Passed};
+ghost use Rattle.fuse.specs.Lent.{Steps, Passes};
+
+use work::Work;
 
 // What a pass does with each event.
 pub trait Pass {
@@ -13,17 +16,16 @@ pub trait Pass {
     ghost laws: { PassLaws step whole };
 
     // Puts event i to those before it.
-    fn take(w: &mut [f64], u: &mut [u32], i: usize)
-        requires { Room w.old u.old (i + 1) }
-        ensures { Stepped step w.old w.new u.old u.new i };
+    fn take(work: &mut Work, i: usize)
+        requires { Has work.old i }
+        ensures { Steps step work.old work.new i };
 }
 
-// All g events, the oldest first.
-pub fn run_pass<P: Pass>(w: &mut [f64], u: &mut [u32], g: usize)
-    requires { Room w.old u.old g }
-    ensures { Passed P.whole w.old w.new u.old u.new g }
+// All events, the oldest first.
+pub fn run_pass<P: Pass>(work: &mut Work)
+    ensures { Passes P.whole work.old work.new work.old.gates }
 {
-    for i in 0..g {
-        P::take(w, u, i);
+    for i in 0..work.gates() {
+        P::take(work, i);
     }
 }

@@ -1,17 +1,18 @@
 // Runs of diagonal one-qubit gates on a slot into one gate (`compress` of the original).
-ghost use Rattle.std.specs.Prelude.{◌≡◌, ◌+◌};
+ghost use Rattle.std.specs.Prelude.{◌≡◌};
 ghost use Rattle.work.specs.Marks.{mark_at};
 ghost use Rattle.work.specs.Columns.{kind_column, one_kind};
+ghost use Rattle.work.specs.Lent.{Has};
 ghost use Rattle.fuse.specs.Compress.{diagonal2_of, compress_step, compressed};
 ghost use Rattle.fuse.specs.Passes.{compress_laws};
-ghost use Rattle.fuse.specs.Layout.{Room, Stepped};
+ghost use Rattle.fuse.specs.Lent.{Steps};
 
 use crate::back::previous;
 use crate::passes::Pass;
-use crate::records::{matrix, put_matrix};
 use gate::Mat2;
-use work::{A, Kind, has_kind, mark, put_kind};
+use work::{A, Kind, Work};
 
+#[tactic(auto, unfolding(crate::specs::Compress::diagonal2_of))]
 fn diagonal2(m: Mat2) -> bool
     ensures { result ≡ diagonal2_of m }
 {
@@ -19,20 +20,21 @@ fn diagonal2(m: Mat2) -> bool
 }
 
 // The one-qubit gate i: if it is diagonal, a diagonal gate just before it on its slot takes it.
-fn press(w: &mut [f64], u: &mut [u32], i: usize)
-    requires { Room w.old u.old (i + 1) × (mark_at u.old i kind_column ≡ one_kind) }
-    ensures { Stepped compress_step w.old w.new u.old u.new i }
+#[tactic(auto, using(crate::proofs::Steps::presses))]
+fn press(work: &mut Work, i: usize)
+    requires { Has work.old i × (mark_at work.old.marks i kind_column ≡ one_kind) }
+    ensures { Steps compress_step work.old work.new i }
 {
-    let s = mark(u, i, A);
-    let Some(t) = previous(u, i, s) else {
+    let s = work.mark(i, A);
+    let Some(t) = previous(work, i, s) else {
         return;
     };
-    if has_kind(u, t, Kind::One) {
-        let m = matrix::<Mat2>(w, i);
-        let n = matrix::<Mat2>(w, t);
+    if work.is(t, Kind::One) {
+        let m = work.matrix::<Mat2>(i);
+        let n = work.matrix::<Mat2>(t);
         if diagonal2(n) && diagonal2(m) {
-            put_matrix(w, t, m * n);
-            put_kind(u, i, Kind::Gone);
+            work.put_matrix(t, m * n);
+            work.put_kind(i, Kind::Gone);
         }
     }
 }
@@ -47,9 +49,10 @@ impl Pass for Runs {
 
     ghost laws = { compress_laws };
 
-    fn take(w: &mut [f64], u: &mut [u32], i: usize) {
-        if has_kind(u, i, Kind::One) {
-            press(w, u, i);
+    #[tactic(auto, using(crate::proofs::Steps::skips))]
+    fn take(work: &mut Work, i: usize) {
+        if work.is(i, Kind::One) {
+            press(work, i);
         }
     }
 }

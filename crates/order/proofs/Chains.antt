@@ -12,13 +12,14 @@ use lib.Dec.{eqb}
 use borrow.Author.Tests.{eq-eqb, ne_eqb, eqb-true}
 use Rattle.laws.specs.Views.{seek}
 use Rattle.laws.proofs.Views.{seek-none, seek-gap, seek-fails, seek-passes}
-use Rattle.laws.proofs.Cases.{eq-or-ne}
+use Rattle.std.proofs.lemmas.Bool.{cases_eq, cond_both}
 use Rattle.work.specs.Sizes.{record_marks}
 use Rattle.work.specs.Marks.{mark_at, put_mark, Only, Records}
 use Rattle.work.specs.Columns.{head_column, next_column}
 use Rattle.work.proofs.Records.{put-here, put_record, only_same, only-trans, only-put}
 use Rattle.order.specs.declared.edges.Edge.{Edge}
-use Rattle.order.specs.Weights.{Pair, edge, joins_of, heavier_of}
+use Rattle.order.specs.declared.edges.Pair.{Pair}
+use Rattle.order.specs.Weights.{edge, joins_of, heavier_of}
 use Rattle.order.specs.Slice.{columns, tally_columns, edge_at, put_edge, on_wire, joins_at, pair_on, Chained, Unchained, put_heavier, put_new}
 use Rattle.order.proofs.Triples.{put-away, edge_of, edge_here, edge-away, edge-only, edges-stay, only-columns}
 
@@ -34,11 +35,7 @@ module _ (p q : ℕ → Bool) where
   pub seek-within : ((i : ℕ) → q i ≡ false → p i ≡ false) → (n : ℕ) → seek p n ≡ seek p (seek q n)
   unfolding seek
   seek-within h zero = refl
-  seek-within h (suc n) = go (q n) refl (seek-within h n)
-    where
-      go : (b : Bool) → q n ≡ b → seek p n ≡ seek p (seek q n) → cond (p n) (suc n) (seek p n) ≡ seek p (cond b (suc n) (seek q n))
-      go true e r = refl
-      go false e r = rw (h n e) r
+  seek-within h (suc n) = cond_both (q n) _ _ (λ z. cond (p n) (suc n) (seek p n) ≡ seek p z) (λ _. refl) (λ e. rw (h n e) (seek-within h n))
 
 module _ (q : ℕ → Bool) where
   seek-most : (n : ℕ) → seek q n ≤ n
@@ -55,55 +52,52 @@ module _ (q : ℕ → Bool) where
 
 -- ---- along a chain
 
-abbrev pair : ℕ → ℕ → Pair
-pair l h = record { lo = l; hi = h }
-
--- the edge of the pair l, h is among the first p, and the last of these has the smaller wire l
-pub record Walks (us : List ℕ) (m l h p : ℕ) : Type 0 where
+-- the edge of the pair q is among the first p, and the last of these has its smaller wire
+pub record Walks (us : List ℕ) (m : ℕ) (q : Pair) (p : ℕ) : Type 0 where
   pub few : p ≤ m
-  pub wire : (i : ℕ) → p ≡ i + 1 → (edge_at us i).lo ≡ l
-  pub same : seek (joins_at us (pair l h)) m ≡ seek (joins_at us (pair l h)) p
+  pub wire : (i : ℕ) → p ≡ i + 1 → (edge_at us i).lo ≡ q.lo
+  pub same : seek (joins_at us q) m ≡ seek (joins_at us q) p
 
-module _ (us : List ℕ) (m n l h : ℕ) (c : Chained us m n) where
-  -- a jump to the last of the first k that has the smaller wire l
-  jump : (k p : ℕ) → k ≤ m → seek (joins_at us (pair l h)) m ≡ seek (joins_at us (pair l h)) k → p ≡ seek (on_wire us l) k → Walks us m l h p
+module _ (us : List ℕ) (m n : ℕ) (q : Pair) (c : Chained us m n) where
+  -- a jump to the last of the first k that has its smaller wire
+  jump : (k p : ℕ) → k ≤ m → seek (joins_at us q) m ≡ seek (joins_at us q) k → p ≡ seek (on_wire us q.lo) k → Walks us m q p
   jump k p f s e = record {
-    few = omega (arith, e, seek-most (on_wire us l) k);
-    wire = λ i q. eqb-true (edge_at us i).lo l (seek-passes (on_wire us l) k i (omega (arith, e, q)));
-    same = s ∙ seek-within (joins_at us (pair l h)) (on_wire us l) other k ∙ ap (seek (joins_at us (pair l h))) (sym e);
+    few = omega (arith, e, seek-most (on_wire us q.lo) k);
+    wire = λ i g. eqb-true (edge_at us i).lo q.lo (seek-passes (on_wire us q.lo) k i (omega (arith, e, g)));
+    same = s ∙ seek-within (joins_at us q) (on_wire us q.lo) other k ∙ ap (seek (joins_at us q)) (sym e);
   }
     where
-      other : (i : ℕ) → on_wire us l i ≡ false → joins_at us (pair l h) i ≡ false
+      other : (i : ℕ) → on_wire us q.lo i ≡ false → joins_at us q i ≡ false
       other i e = rw e
 
-  pub walk_start : (p : ℕ) → l < n → p ≡ mark_at us l head_column → Walks us m l h p
-  walk_start p g e = jump m p (omega arith) refl (e ∙ c.head l g)
+  pub walk_start : (p : ℕ) → q.lo < n → p ≡ mark_at us q.lo head_column → Walks us m q p
+  walk_start p g e = jump m p (omega arith) refl (e ∙ c.head q.lo g)
 
   -- at edge i
-  module _ (i : ℕ) (w : Walks us m l h (i + 1)) where
-    own : eqb (edge_at us i).lo l ≡ true
-    own = eq-eqb (edge_at us i).lo l (w.wire i refl)
+  module _ (i : ℕ) (w : Walks us m q (i + 1)) where
+    own : eqb (edge_at us i).lo q.lo ≡ true
+    own = eq-eqb (edge_at us i).lo q.lo (w.wire i refl)
 
-    before : mark_at us i next_column ≡ seek (on_wire us l) i
+    before : mark_at us i next_column ≡ seek (on_wire us q.lo) i
     before = c.next i (omega (arith, w.few)) ∙ ap (λ (l : ℕ). seek (on_wire us l) i) (w.wire i refl)
 
-    pub walk-hits : (edge_at us i).hi ≡ h → i + 1 ≡ seek (joins_at us (pair l h)) m
-    walk-hits e = sym (w.same ∙ seek-last (joins_at us (pair l h)) i hit)
+    pub walk-hits : (edge_at us i).hi ≡ q.hi → i + 1 ≡ seek (joins_at us q) m
+    walk-hits e = sym (w.same ∙ seek-last (joins_at us q) i hit)
       where
-        hit : joins_at us (pair l h) i ≡ true
-        hit = rw (own, eq-eqb (edge_at us i).hi h e)
+        hit : joins_at us q i ≡ true
+        hit = rw (own, eq-eqb (edge_at us i).hi q.hi e)
 
-    pub walk_more : (r : ℕ) → (edge_at us i).hi ≢ h → r ≡ mark_at us i next_column → Walks us m l h r
-    walk_more r ne e = jump i r (omega (arith, w.few)) (w.same ∙ seek-before (joins_at us (pair l h)) i miss) (e ∙ before)
+    pub walk_more : (r : ℕ) → (edge_at us i).hi ≢ q.hi → r ≡ mark_at us i next_column → Walks us m q r
+    walk_more r ne e = jump i r (omega (arith, w.few)) (w.same ∙ seek-before (joins_at us q) i miss) (e ∙ before)
       where
-        miss : joins_at us (pair l h) i ≡ false
-        miss = rw (own, ne_eqb (edge_at us i).hi h ne)
+        miss : joins_at us q i ≡ false
+        miss = rw (own, ne_eqb (edge_at us i).hi q.hi ne)
 
     pub walk-falls : (r : ℕ) → r ≡ mark_at us i next_column → r < i + 1
-    walk-falls r e = omega (arith, e, before, seek-most (on_wire us l) i)
+    walk-falls r e = omega (arith, e, before, seek-most (on_wire us q.lo) i)
 
-  pub walk_ends : Walks us m l h 0 → 0 ≡ seek (joins_at us (pair l h)) m
-  walk_ends w = sym (w.same ∙ sym (seek-none (joins_at us (pair l h)) 0 (omega arith)))
+  pub walk_ends : Walks us m q 0 → 0 ≡ seek (joins_at us q) m
+  walk_ends w = sym (w.same ∙ sym (seek-none (joins_at us q) 0 (omega arith)))
 
 -- ---- no edges
 
@@ -264,7 +258,7 @@ module _ (us : List ℕ) (m n : ℕ) (p : Pair) (room : Records us (m + 1)) (wid
 
     pub new-chained : Chained (put_new us m p) (m + 1) n
     new-chained = record {
-      head = λ l h. new-head l h (eq-or-ne l p.lo);
+      head = λ l h. new-head l h (cases_eq l p.lo);
       next = λ i h. new-next i (eq-or-lt_of_le (omega arith));
       once = λ i j h g. new-once i j (eq-or-lt_of_le (omega arith)) g;
     }

@@ -13,10 +13,11 @@ use Rattle.laws.specs.Lists.{All}
 use Rattle.laws.specs.Views.{up_from, list_of}
 use Rattle.laws.proofs.Lists.{all_map}
 use Rattle.laws.proofs.Views.{up_same}
-use Rattle.laws.proofs.Cases.{eq-or-ne}
+use Rattle.std.proofs.lemmas.Bool.{cases_eq, cond_both}
 use Rattle.work.specs.Columns.{match_item}
 use Rattle.order.specs.declared.edges.Edge.{Edge}
-use Rattle.order.specs.Weights.{Pair, pair_of, edge, joins_of, heavier_of, add_of, tally_of}
+use Rattle.order.specs.declared.edges.Pair.{Pair}
+use Rattle.order.specs.Weights.{pair_of, edge, joins_of, heavier_of, add_of, tally_of}
 use Rattle.order.specs.Pairs.{ItemRow, pairs_of}
 use Rattle.order.specs.Slice.{count_item_of}
 
@@ -29,7 +30,7 @@ module _ (p : Pair) (E F : ℕ → Edge) where
   unfolding up_from add_of
   add-hit k zero j h g u v f s = absurd (omega arith)
   add-hit k (suc n) j h g u v f s =
-      go (eq-or-ne k j) (λ ne. add-hit (suc k) n j (omega (arith, ne)) (omega arith) (λ i a b. u i (omega arith) b) v f s)
+      go (cases_eq k j) (λ ne. add-hit (suc k) n j (omega (arith, ne)) (omega arith) (λ i a b. u i (omega arith) b) v f s)
     where
       go : (k ≡ j) ⊎ (k ≢ j) → (k ≢ j → up_from F (suc k) n ≡ add_of p (up_from E (suc k) n))
           → F k ∷ up_from F (suc k) n ≡ cond (joins_of p (E k)) (heavier_of (E k) ∷ up_from E (suc k) n) (E k ∷ add_of p (up_from E (suc k) n))
@@ -83,12 +84,9 @@ lighter k = all_map (λ f g. omega (arith, g))
 add-light : (p : Pair) (k : ℕ) (es : List Edge) → All (AtMost k) es → All (AtMost (k + 1)) (add_of p es)
 unfolding add_of
 add-light p k [] h = (omega arith, tt)
-add-light p k (e ∷ es) h = go (joins_of p e) (add-light p k es h.1) (lighter k es h.1)
-  where
-    go : (b : Bool) → All (AtMost (k + 1)) (add_of p es) → All (AtMost (k + 1)) es
-        → All (AtMost (k + 1)) (cond b (heavier_of e ∷ es) (e ∷ add_of p es))
-    go true i l = (omega (arith, h.0), l)
-    go false i l = (omega (arith, h.0), i)
+add-light p k (e ∷ es) h =
+    cond_both (joins_of p e) _ _ (All (AtMost (k + 1)))
+    (λ _. (omega (arith, h.0), (lighter k es h.1))) (λ _. (omega (arith, h.0), (add-light p k es h.1)))
 
 count-light : (t : ItemRow) (k : ℕ) (es : List Edge) → All (AtMost k) es → All (AtMost (k + 1)) (count_item_of t es)
 count-light t k es h = go (eqb t.kind match_item)

@@ -2,7 +2,7 @@
 -- of two paths; and the keys moved by the code's link are those of the joined cover. That no wire stands twice tells the paths apart. Assumes
 -- nothing.
 use mathlib.Core.Path.{◌≡◌, refl, sym, ap, ap₂, subst, ◌∙◌}
-use mathlib.Core.Bool.{Bool, true, false, cond, ◌&&◌, ◌||◌}
+use mathlib.Core.Bool.{Bool, true, false, cond, ◌&&◌, ◌||◌, or_comm, and-false, and-true, false≢true, true≢false}
 use mathlib.Core.List.{List, [], ◌∷◌}
 use mathlib.Core.Logic.{◌⊎◌, inl, inr, ⊎_elim, ◌≢◌}
 use Prim.Native.Nat.{ℕ, suc, ◌+◌, ◌≤◌, ◌<◌}
@@ -12,7 +12,7 @@ use lib.Dec.{eqb, ltb}
 use lib.ListN.{length, length-append}
 use borrow.Author.Tests.{eq-eqb, ne_eqb, eqb-true}
 use Rattle.laws.specs.Lists.{All}
-use Rattle.laws.proofs.Cases.{lt-or-le, eq-or-ne}
+use Rattle.std.proofs.lemmas.Bool.{cases_lt, cases_eq}
 use Rattle.order.specs.declared.keys.Key.{Key}
 use Rattle.order.specs.declared.keys.Link.{Link}
 use Rattle.order.specs.Keys.{key, moved_of, is_end_of, can_join, the_link, link_of, other_end_of, joined_keys}
@@ -38,16 +38,13 @@ times-nil : (w : ℕ) → 0 < times w [] → ⊥
 unfolding total
 times-nil w g = omega arith
 
-pub never : false ≡ true → ⊥
-never e = let z : ◌≡◌ {A = ℕ} 0 1 = cc in omega arith
-
 starts-on : (w : ℕ) (p : List ℕ) → starts_with w p ≡ true → (t : List ℕ) × (p ≡ w ∷ t)
-starts-on w [] e = absurd (never e)
+starts-on w [] e = absurd (false≢true e)
 starts-on w (x ∷ p) e = (p, ap (λ (z : ℕ). z ∷ p) (eqb-true x w e))
 
 -- a list that ends with w starts with it when turned round
 ends_on : (w : ℕ) (p : List ℕ) → ends_with w p ≡ true → (t : List ℕ) × (onto p [] ≡ w ∷ t)
-ends_on w [] e = absurd (never e)
+ends_on w [] e = absurd (false≢true e)
 ends_on w (x ∷ p) e = ((turned-ends x p []).0, (turned-ends x p []).1 ∙ ap (λ (z : ℕ). z ∷ (turned-ends x p []).0) (eqb-true (final x p) w e))
 
 flat-nil : (w : ℕ) → times w (flat []) ≡ 0
@@ -101,16 +98,10 @@ module _ (K : ℕ → Key) where
   keyed-end w (x ∷ p) k g =
       ap₂ (λ (l h : ℕ). eqb l w || eqb h w) (keyed-on (x ∷ p) k w g).0 (keyed-on (x ∷ p) k w g).1 ∙ go (keyed-ends K x p k)
     where
-      either : (s t : Bool) → (s || t) ≡ (t || s)
-      either true true = refl
-      either true false = refl
-      either false true = refl
-      either false false = refl
-
       go : ((k.lo ≡ x) × (k.hi ≡ final x p)) ⊎ ((k.lo ≡ final x p) × (k.hi ≡ x))
           → (eqb k.lo w || eqb k.hi w) ≡ (eqb x w || eqb (final x p) w)
       go (inl e) = ap₂ (λ (l h : ℕ). eqb l w || eqb h w) e.0 e.1
-      go (inr e) = ap₂ (λ (l h : ℕ). eqb l w || eqb h w) e.0 e.1 ∙ either (eqb (final x p) w) (eqb x w)
+      go (inr e) = ap₂ (λ (l h : ℕ). eqb l w || eqb h w) e.0 e.1 ∙ or_comm (eqb (final x p) w) (eqb x w)
 
 -- ---- all paths of a cover
 
@@ -130,7 +121,7 @@ module _ (K : ℕ → Key) where
     where
       nil : 0 < times w (flat []) → ⊥
       nil g = omega (arith, flat-nil w)
-  each_on (p ∷ ps) h w g = go (lt-or-le 0 (times w p)) (each_on ps h.1 w)
+  each_on (p ∷ ps) h w g = go (cases_lt 0 (times w p)) (each_on ps h.1 w)
     where
       more : (v : ℕ) → times v (flat (p ∷ ps)) ≡ times v p + times v (flat ps)
       more v = sum-cons (λ x. bit (eqb x v)) p ps
@@ -229,7 +220,7 @@ module _ (K : ℕ → Key) where
     where
       nil : times w (flat []) ≡ 1 → ⊥
       nil z = omega (arith, flat-nil w)
-  pull-end w (p ∷ ps) h z = go (lt-or-le 0 (times w p)) (pull-end w ps h.1) ∙ sym (found-cons w p ps)
+  pull-end w (p ∷ ps) h z = go (cases_lt 0 (times w p)) (pull-end w ps h.1) ∙ sym (found-cons w p ps)
     where
       more : times w (flat (p ∷ ps)) ≡ times w p + times w (flat ps)
       more = sum-cons (λ x. bit (eqb x w)) p ps
@@ -297,14 +288,6 @@ each_same K L j moved (p ∷ ps) h u v = (
 
 -- ---- THE STEP: an edge in the definition and in the keys
 
-and-false : (s : Bool) → false ≡ (s && false)
-and-false true = refl
-and-false false = refl
-
-and-true : (s : Bool) → s ≡ (s && true)
-and-true true = refl
-and-true false = refl
-
 module _ (K L : ℕ → Key) (n a b : ℕ) (c : Cover) (moved : (x : ℕ) → L x ≡ joined_keys K a b x) (all : Wires n (flat c.paths)) where
   abbrev Follows : Cover → Type 0
   Follows d = EachKeyed L d.paths × (d.all ≡ (c.all && can_join K a b))
@@ -316,7 +299,7 @@ module _ (K L : ℕ → Key) (n a b : ℕ) (c : Cover) (moved : (x : ℕ) → L 
   stays : EachKeyed K c.paths → can_join K a b ≡ false → Follows (left c)
   stays h e = (
     each-agree K L c.paths (λ x g. moved x ∙ ap (λ (t : Bool). cond t (moved_of (the_link K a b) (K x)) (K x)) e) h,
-    and-false c.all ∙ ap (λ (t : Bool). c.all && t) (sym e),
+    sym (and-false c.all) ∙ ap (λ (t : Bool). c.all && t) (sym e),
   )
 
   -- a wire of one part is not of the other
@@ -332,7 +315,7 @@ module _ (K L : ℕ → Key) (n a b : ℕ) (c : Cover) (moved : (x : ℕ) → L 
       each_same K L (the_link K a b) link rs h (near (ltb (other_end_of (K a) a) (other_end_of (K b) b)))
           (far (ltb (other_end_of (K a) a) (other_end_of (K b) b))),
     ),
-    and-true c.all ∙ ap (λ (t : Bool). c.all && t) (sym e),
+    sym (and-true c.all) ∙ ap (λ (t : Bool). c.all && t) (sym e),
   )
     where
       link : (x : ℕ) → L x ≡ moved_of (the_link K a b) (K x)
@@ -368,7 +351,7 @@ module _ (K L : ℕ → Key) (n a b : ℕ) (c : Cover) (moved : (x : ℕ) → L 
   -- with the path of a in hand
   second : (t : List ℕ) (qs : List (List ℕ)) → b < n → EachKeyed K c.paths → Keyed K (a ∷ t) → EachKeyed K qs → Rests (a ∷ t) qs
       → is_end_of (K a) a ≡ true → Follows (with_second (a ∷ t) (pull b qs) c)
-  second t qs hb h₀ ka h z ea = by (eq-or-ne (K a).lo (K b).lo)
+  second t qs hb h₀ ka h z ea = by (cases_eq (K a).lo (K b).lo)
     where
       fa : (K a).lo ≡ ka.lo
       fa = (keyed-first K a t ka).0
@@ -376,7 +359,7 @@ module _ (K L : ℕ → Key) (n a b : ℕ) (c : Cover) (moved : (x : ℕ) → L 
       -- on the same path
       same : (r : Pull) → found r ≡ false → can_join K a b ≡ false → Follows (with_second (a ∷ t) r c)
       same none u e = stays h₀ e
-      same (got q rs) u e = absurd (never (sym u))
+      same (got q rs) u e = absurd (true≢false u)
 
       other : (K a).lo ≢ (K b).lo → (r : Pull) → Got K b r → ((f : ℕ → ℕ) → Whole f (total f (flat qs)) r) → is_end_of (K b) b ≡ found r
           → Follows (with_second (a ∷ t) r c)
@@ -388,16 +371,13 @@ module _ (K L : ℕ → Key) (n a b : ℕ) (c : Cover) (moved : (x : ℕ) → L 
 
       by : ((K a).lo ≡ (K b).lo) ⊎ ((K a).lo ≢ (K b).lo) → Follows (with_second (a ∷ t) (pull b qs) c)
       by (inl e) =
-          same (pull b qs) (pull-away K b qs h (gone (lt-or-le 0 (times b (flat qs)))))
-          (rw (eq-eqb (K a).lo (K b).lo e) (last (is_end_of (K a) a && is_end_of (K b) b)))
+          same (pull b qs) (pull-away K b qs h (gone (cases_lt 0 (times b (flat qs)))))
+          (rw (eq-eqb (K a).lo (K b).lo e) (and-false (is_end_of (K a) a && is_end_of (K b) b)))
         where
-          last : (s : Bool) → (s && false) ≡ false
-          last s = sym (and-false s)
-
           gone : (0 < times b (flat qs)) ⊎ (times b (flat qs) ≤ 0) → times b (flat qs) ≡ 0
           gone (inl g) = absurd (each-away K qs h ka.lo (elsewhere (a ∷ t) qs z ka.lo (keyed-lo K (a ∷ t) ka)) b g (sym e ∙ fa))
           gone (inr g) = omega arith
-      by (inr ne) = other ne (pull b qs) (pull-got K b qs h) (λ f. pull-whole f b qs) (pull-end K b qs h (there (lt-or-le 0 (times b (a ∷ t)))))
+      by (inr ne) = other ne (pull b qs) (pull-got K b qs h) (λ f. pull-whole f b qs) (pull-end K b qs h (there (cases_lt 0 (times b (a ∷ t)))))
         where
           there : (0 < times b (a ∷ t)) ⊎ (times b (a ∷ t) ≤ 0) → times b (flat qs) ≡ 1
           there (inl g) = absurd (ne (fa ∙ sym (keyed-on K (a ∷ t) ka b g).0))

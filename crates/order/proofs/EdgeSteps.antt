@@ -6,14 +6,15 @@ use mathlib.Core.List.{List}
 use mathlib.Core.Logic.{◌≢◌}
 use Prim.Native.Nat.{ℕ, ◌+◌, ◌-◌, ◌≤◌, ◌<◌}
 use native.Mathlib.Omega.{arith}
-use borrow.Author.Tests.{lt-ltb, le-ltb, eq-eqb, ne_eqb}
+use borrow.Author.Tests.{eq-eqb, ne_eqb}
 use Rattle.laws.specs.Views.{up_from, seek}
 use Rattle.laws.proofs.Lists.{all-at}
 use Rattle.laws.proofs.Views.{up_same}
 use Rattle.work.specs.Marks.{Only, Records}
 use Rattle.work.specs.Columns.{match_item}
 use Rattle.work.proofs.Records.{only_same, only-trans}
-use Rattle.order.specs.Weights.{Pair, pair_of, add_of, tally_of}
+use Rattle.order.specs.declared.edges.Pair.{Pair}
+use Rattle.order.specs.Weights.{pair_of, add_of, tally_of}
 use Rattle.order.specs.Pairs.{ItemRow, item_row, pairs_of, WiresBelow}
 use Rattle.order.specs.Slice.{limit, edge_at, edges_in, Light}
 use Rattle.order.specs.Slice.{tally_columns, joins_at, Chained, Unchained, put_heavier, put_new, MatchBelow, Added, count_item_of, Counted, Tallied}
@@ -54,12 +55,6 @@ module _ (us : List ℕ) (m n : ℕ) (p : Pair) (r : ℕ) (e : r ≡ seek (joins
       none = found_none us m p r e g
 
 -- ---- an item counted
-
-pub pair-turned : (a b x y : ℕ) → a ≡ x → b ≡ y → b < a → record { lo = b; hi = a } ≡ pair_of x y
-pair-turned a b x y p q h = rw (← p, ← q, lt-ltb b a h)
-
-pub pair-straight : (a b x y : ℕ) → a ≡ x → b ≡ y → a ≤ b → record { lo = a; hi = b } ≡ pair_of x y
-pair-straight a b x y p q h = rw (← p, ← q, le-ltb b a h)
 
 pub count-skips : (us : List ℕ) (m n i k : ℕ) → Chained us m n → k ≡ (item_row us i).kind → k ≢ match_item → Counted us us m n i m
 count-skips us m n i k c e ne = record {

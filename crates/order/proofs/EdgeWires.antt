@@ -7,11 +7,13 @@ use Prim.Native.Nat.{ℕ, zero, suc, ◌+◌, ◌≤◌, ◌<◌}
 use native.Mathlib.Omega.{arith}
 use lib.Dec.{eqb, ltb}
 use borrow.Author.Tests.{eqb-true}
+use Rattle.std.proofs.lemmas.Bool.{cond_both}
 use Rattle.laws.specs.Lists.{All}
 use Rattle.laws.specs.Views.{up_from, list_of}
 use Rattle.work.specs.Columns.{match_item}
 use Rattle.order.specs.declared.edges.Edge.{Edge}
-use Rattle.order.specs.Weights.{Pair, pair_of, joins_of, heavier_of, add_of, tally_of, sooner_of, insert_of, heaviest_of, edges_of}
+use Rattle.order.specs.declared.edges.Pair.{Pair}
+use Rattle.order.specs.Weights.{pair_of, joins_of, add_of, tally_of, sooner_of, insert_of, heaviest_of, edges_of}
 use Rattle.order.specs.Pairs.{ItemRow, pairs_of}
 
 -- ---- edges sorted
@@ -20,11 +22,7 @@ module _ (P : Edge → Type 0) where
   pub insert_all : (e : Edge) (es : List Edge) → P e → All P es → All P (insert_of e es)
   unfolding insert_of
   insert_all e [] a h = (a, tt)
-  insert_all e (f ∷ fs) a h = go (sooner_of e f) (insert_all e fs a h.1)
-    where
-      go : (t : Bool) → All P (insert_of e fs) → All P (cond t (e ∷ f ∷ fs) (f ∷ insert_of e fs))
-      go true r = (a, h)
-      go false r = (h.0, r)
+  insert_all e (f ∷ fs) a h = cond_both (sooner_of e f) _ _ (All P) (λ _. (a, h)) (λ _. (h.0, (insert_all e fs a h.1)))
 
   pub heaviest-all : (es : List Edge) → All P es → All P (heaviest_of es)
   unfolding heaviest_of
@@ -41,20 +39,12 @@ module _ (P : ℕ → ℕ → Type 0) where
   OnEdge e = P e.lo e.hi
 
   pub pair-on : (a b : ℕ) → P a b → P b a → OnPair (pair_of a b)
-  pair-on a b h k = go (ltb b a)
-    where
-      go : (t : Bool) → OnPair (cond t (record { lo = b; hi = a }) (record { lo = a; hi = b }))
-      go true = k
-      go false = h
+  pair-on a b h k = cond_both (ltb b a) _ _ OnPair (λ _. k) (λ _. h)
 
   pub add-all : (p : Pair) (es : List Edge) → OnPair p → All OnEdge es → All OnEdge (add_of p es)
   unfolding add_of
   add-all p [] a h = (a, tt)
-  add-all p (e ∷ es) a h = go (joins_of p e) (add-all p es a h.1)
-    where
-      go : (t : Bool) → All OnEdge (add_of p es) → All OnEdge (cond t (heavier_of e ∷ es) (e ∷ add_of p es))
-      go true r = h
-      go false r = (h.0, r)
+  add-all p (e ∷ es) a h = cond_both (joins_of p e) _ _ (All OnEdge) (λ _. h) (λ _. (h.0, (add-all p es a h.1)))
 
   pub tally-all : (ps : List Pair) → All OnPair ps → All OnEdge (tally_of ps)
   unfolding tally_of

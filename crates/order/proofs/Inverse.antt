@@ -9,8 +9,8 @@ use lib.ListN.{get_or}
 use Rattle.work.specs.Marks.{mark_at}
 use Rattle.work.specs.Columns.{order_column, pos_column}
 use Rattle.order.specs.declared.edges.Edge.{Edge}
+use Rattle.order.specs.declared.edges.Pair.{Pair}
 use Rattle.order.specs.declared.choice.Ordering.{Ordering}
-use Rattle.order.specs.Weights.{Pair}
 use Rattle.order.specs.Cover.{wires, cover_of}
 use Rattle.order.specs.Arrangement.{flat, find}
 use Rattle.order.specs.Choice.{Arrangement, identity_of, choose_order_of}

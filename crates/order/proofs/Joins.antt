@@ -4,11 +4,13 @@ use mathlib.Core.Path.{◌≡◌, refl, sym, ap, ap₂, subst, subst₂, ◌∙�
 use mathlib.Core.Bool.{Bool, true, false, cond}
 use mathlib.Core.List.{List, [], ◌∷◌}
 use mathlib.Core.Logic.{◌⊎◌, inl, inr, ⊎_elim, ◌≢◌}
-use Prim.Native.Nat.{ℕ, suc, ◌+◌, ◌-◌, ◌≤◌}
+use Prim.Native.Nat.{ℕ, suc, ◌+◌, ◌≤◌}
 use native.Mathlib.Omega.{arith}
 use lib.Dec.{eqb, ltb}
 use lib.ListN.{length}
 use borrow.Author.Tests.{eq-eqb, ne_eqb, le-ltb, eqb-true, ltb-true, ltb-false}
+use native.Mathlib.Numerals.{add-one}
+use Rattle.std.proofs.lemmas.Bool.{cond_both}
 use Rattle.order.specs.declared.keys.Key.{Key}
 use Rattle.order.specs.declared.keys.Link.{Link}
 use Rattle.order.specs.Keys.{key, moved_of, link_of, other_end_of, the_link}
@@ -55,11 +57,7 @@ module _ (K : ℕ → Key) where
   )
     where
       far : (i m n : ℕ) → m ≡ i + n → abs_diff_of i m ≡ n
-      far i m n f = go (ltb i m) refl
-        where
-          go : (t : Bool) → ltb i m ≡ t → cond t (m - i) (i - m) ≡ n
-          go true g = omega (arith, f)
-          go false g = omega (arith, f, ltb-false i m g)
+      far i m n f = cond_both (ltb i m) _ _ (λ z. z ≡ n) (λ g. omega (arith, f)) (λ g. omega (arith, f, ltb-false i m g))
 
   -- turned round, a path is spread the other way
   spread-onto : (l h d e : ℕ) (p q : List ℕ) → Spread l h d e (length q) p → Spread l h e d (length p) q → Spread l h e d 0 (onto p q)
@@ -246,13 +244,10 @@ module _ (K L : ℕ → Key) (a b : ℕ) (t s : List ℕ) (ka : Keyed K (a ∷ t
       (λ e. ne (e ∙ fa.0))
       (sym (keyed-first K b s kb).0)
       (keyed-ended K b s kb).spread
-      (ap (λ (z : ℕ). z + 1) fa.2 ∙ add1 (length t))
+      (ap (λ (z : ℕ). z + 1) fa.2 ∙ add-one (length t))
     where
       fa : ((K a).lo ≡ ka.lo) × ((K a).hi ≡ ka.hi) × (abs_diff_of (K a).at (K (final a t)).at ≡ length t)
       fa = keyed-first K a t ka
-
-      add1 : (n : ℕ) → n + 1 ≡ suc n
-      add1 n = omega arith
 
   -- the list l has that path, in that direction or the other
   keyed-link : final a t ≤ final b s → (l : List ℕ) → (l ≡ onto (a ∷ t) (b ∷ s)) ⊎ (l ≡ onto (onto (a ∷ t) (b ∷ s)) [])

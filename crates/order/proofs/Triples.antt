@@ -3,13 +3,13 @@
 use mathlib.Core.Path.{◌≡◌, refl, sym, ◌∙◌}
 use mathlib.Core.Bool.{Bool, true, false, ◌&&◌}
 use mathlib.Core.List.{List}
-use mathlib.Core.Logic.{◌⊎◌, inl, inr, ◌≢◌}
+use mathlib.Core.Logic.{◌≢◌, ⊎_elim}
 use Prim.Native.Nat.{ℕ, ◌+◌, ◌≤◌, ◌<◌}
 use native.Mathlib.Omega.{arith}
 use lib.Dec.{leb}
 use lib.ListN.{length}
 use borrow.Author.Tests.{le-leb, leb-true}
-use Rattle.laws.proofs.Cases.{eq-or-ne}
+use Rattle.std.proofs.lemmas.Bool.{cases_eq}
 use Rattle.work.specs.Sizes.{record_marks}
 use Rattle.work.specs.Marks.{mark_at, put_mark, Only, Records}
 use Rattle.work.proofs.Records.{put-size, put-here, put-column, put_record, only-trans, only-put, only_wider}
@@ -43,11 +43,7 @@ only-columns a b x y us vs h g o = only_wider (columns a b) (columns x y) us vs 
 
 -- another record stays
 pub put-away : (us : List ℕ) (i c v j d : ℕ) → c < record_marks → d < record_marks → j ≢ i → mark_at (put_mark us i c v) j d ≡ mark_at us j d
-put-away us i c v j d hc hd ne = by (eq-or-ne c d)
-  where
-    by : (c ≡ d) ⊎ (c ≢ d) → mark_at (put_mark us i c v) j d ≡ mark_at us j d
-    by (inl e) = rw (sym e) (put_record us i c v j ne)
-    by (inr e) = put-column us i c v j d hc hd e
+put-away us i c v j d hc hd ne = ⊎_elim (λ (e : c ≡ d). rw (sym e) (put_record us i c v j ne)) (λ e. put-column us i c v j d hc hd e) (cases_eq c d)
 
 module _ (a b c : ℕ) (ha : a < record_marks) (hb : b < record_marks) (hc : c < record_marks) (us : List ℕ) (i x y z : ℕ) where
   one : List ℕ

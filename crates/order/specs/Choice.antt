@@ -2,8 +2,9 @@
 -- own: identity, paths if the cover kept every edge, greedy otherwise. Assumes nothing. A public promise rests on this.
 use Rattle.std.specs.Prelude.{Bool, cond, ◌&&◌, List, [], ◌∷◌, ℕ, ◌+◌, ltb}
 use Rattle.order.specs.declared.edges.Edge.{Edge}
+use Rattle.order.specs.declared.edges.Pair.{Pair}
 use Rattle.order.specs.declared.choice.Ordering.{Ordering}
-use Rattle.order.specs.Weights.{Pair, edges_of, weighs_of}
+use Rattle.order.specs.Weights.{edges_of, weighs_of}
 use Rattle.order.specs.Cover.{Cover, wires, cover_of}
 use Rattle.order.specs.Arrangement.{arranged, flat, zeros, marked, marks, find, beside_of}
 

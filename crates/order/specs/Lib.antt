@@ -6,3 +6,4 @@ pub mod Choice
 pub mod Keys
 pub mod Pairs
 pub mod Slice
+pub mod Lent

@@ -4,7 +4,8 @@ use Rattle.std.specs.Prelude.{◌≡◌, cond, List, [], ◌∷◌, ℕ, ◌<◌
 use Rattle.laws.specs.Views.{list_of}
 use Rattle.work.specs.Marks.{mark_at}
 use Rattle.work.specs.Columns.{kind_column, a_column, b_column, match_item}
-use Rattle.order.specs.Weights.{Pair, pair_of}
+use Rattle.order.specs.declared.edges.Pair.{Pair}
+use Rattle.order.specs.Weights.{pair_of}
 
 -- what a record has of its item: the kind and the wires
 pub record ItemRow : Type 0 where

@@ -1,8 +1,6 @@
 // A tape fused in lent work, and what that counts and leaves there beside the words of its record.
-ghost use Rattle.std.specs.Prelude.{◌≡◌, ◌<◌, length};
+ghost use Rattle.std.specs.Prelude.{◌<◌};
 ghost use Rattle.work.specs.Sizes.{record_marks};
-ghost use Rattle.work.specs.Marks.{Records};
-ghost use Rattle.fuse.specs.Layout.{Space};
 ghost use Rattle.fuse.specs.Slotted.{Gates};
 
 use crate::items;
@@ -11,13 +9,14 @@ use resolve::Rules;
 use stored::records::Taped;
 use stored::words::{Plain, Words};
 use tape::Header;
+use work::{CONTENT, LAB, RECORD_FLOATS, RECORD_MARKS, Work};
 
 // Gates and qubits of a stored tape together at most.
 const ROOM: usize = 128;
 
-const FLOATS: usize = work::RECORD_FLOATS * ROOM;
+const FLOATS: usize = RECORD_FLOATS * ROOM;
 
-const MARKS: usize = work::RECORD_MARKS * ROOM;
+const MARKS: usize = RECORD_MARKS * ROOM;
 
 // A record: the tape, the counts, the slots, the items. Nothing where it cannot be read.
 pub fn compare(taped: Taped, mut words: Plain, tallies: &mut Tallies) -> Option<()> {
@@ -44,32 +43,26 @@ fn fused(
     }
     let mut w = [0.0; FLOATS];
     let mut u = [0u32; MARKS];
-    let told = fuse_tape(tape, &mut w, &mut u, gates, header);
+    let mut work = Work::over(&mut w, &mut u, gates, n);
+    let told = fuse_tape(tape, &mut work, header);
     tallies.counts.note(counts_agree(told, &mut words));
-    let slots = column_agrees(&u, n, work::LAB, &mut words);
-    let wires = column_agrees(&u, n, work::CONTENT, &mut words);
+    let slots = column_agrees(&work, LAB, &mut words);
+    let wires = column_agrees(&work, CONTENT, &mut words);
     tallies.slots.note(slots && wires);
-    items::compare(taped, &w, &u, gates + n, &mut words, tallies);
+    items::compare(taped, &work, &mut words, tallies);
     Some(())
 }
 
 // The gates of an accepted tape, fused in the lent work.
-fn fuse_tape(
-    tape: &[u8],
-    w: &mut [f64],
-    u: &mut [u32],
-    gates: usize,
-    header: Header,
-) -> resolve::Tally
-    requires { Gates tape.now gates header.n × Space w.old u.old gates header.n }
-    ensures { (length w.new ≡ length w.old) × (length u.new ≡ length u.old) }
+fn fuse_tape(tape: &[u8], work: &mut Work, header: Header) -> resolve::Tally
+    requires { Gates tape.now work.old.gates work.old.slots }
 {
     let rules = Rules {
         relabel: header.relabels(),
         tol: header.tolerance,
     };
-    let swaps = fuse::relabel_all(tape, w, u, gates, header.n, rules.relabel);
-    resolve::fuse_events(w, u, gates, header.n, rules, swaps)
+    let swaps = fuse::relabel_all(tape, work, rules.relabel);
+    resolve::fuse_events(work, rules, swaps)
 }
 
 fn counts_agree(told: resolve::Tally, words: &mut Plain) -> bool {
@@ -77,14 +70,13 @@ fn counts_agree(told: resolve::Tally, words: &mut Plain) -> bool {
     stored::values::compare(&counts, words).is_ok()
 }
 
-// Whether a column of the first n records is what the words are: the slot of each qubit, or the wire in each slot.
-fn column_agrees(u: &[u32], n: usize, column: usize, words: &mut Plain) -> bool
-    requires records { Records u.now n }
-    requires column { column < record_marks }
+// Whether a column is what the words are: the slot of each qubit, or the wire in each slot.
+fn column_agrees(work: &Work, column: usize, words: &mut Plain) -> bool
+    requires { column < record_marks }
 {
     let mut same = true;
-    for q in 0..n {
-        same &= words.word() == Some(u64::from(work::mark(u, q, column)));
+    for q in 0..work.slots() {
+        same &= words.word() == Some(u64::from(work.mark(q, column)));
     }
     same
 }

@@ -1,7 +1,7 @@
 -- The search for the best cuts, cut by cut: what is left to try from a cut on; and that it turns on what the cuts take and on nothing else.
 -- Assumes nothing.
 use mathlib.Core.Path.{◌≡◌, refl, sym, ap, ◌∙◌}
-use Rattle.std.proofs.lemmas.Bool.{false≢true}
+use Rattle.std.proofs.lemmas.Bool.{false≢true, cond_both}
 use mathlib.Core.Bool.{Bool, true, false, cond}
 use mathlib.Core.List.{List, [], ◌∷◌, ◌++◌}
 use Prim.Native.Nat.{ℕ, zero, suc, ◌+◌, ◌-◌, ◌≤◌, ◌<◌}
@@ -97,6 +97,10 @@ module _ (relabel : Bool) (tol : Float) (base : Mat4) (pa pb : ℕ → Mat2) whe
   unfolding choose_of
   all_start la lb = ap (λ l. each (all_offers l (cuts lb)) (record { best = no_choice base; angled = false })) (from_start la)
 
+pub ruleset rows = (from_start, row-end, row-tried, row-passed, first_window)
+
+pub ruleset searches = (all_start, all_end, all-tried, all-passed, first_window)
+
 -- ---- other tables with the same prefixes
 
 -- every number of a list is at most m
@@ -106,11 +110,9 @@ UpTo m = All (λ t. t ≤ m)
 keep-up-to : (m : ℕ) (p : ℕ → Bool) (k n : ℕ) → k + n ≤ m + 1 → UpTo m (keep p (up_from (λ t. t) k n))
 unfolding keep up_from
 keep-up-to m p k zero h = tt
-keep-up-to m p k (suc n) h = go (p k) (keep-up-to m p (suc k) n (omega arith))
-  where
-    go : (b : Bool) → UpTo m (keep p (up_from (λ t. t) (suc k) n)) → UpTo m (cond b (k ∷ keep p (up_from (λ t. t) (suc k) n)) (keep p (up_from (λ t. t) (suc k) n)))
-    go true r = (omega arith, r)
-    go false r = r
+keep-up-to m p k (suc n) h =
+    cond_both (p k) _ _ (UpTo m)
+    (λ _. (omega arith, (keep-up-to m p (suc k) n (omega arith)))) (λ _. (keep-up-to m p (suc k) n (omega arith)))
 
 pub cuts-up-to : (m : ℕ) → UpTo m (cuts m)
 unfolding cuts

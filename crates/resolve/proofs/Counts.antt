@@ -1,8 +1,8 @@
 -- How many cuts a tail has: one more than its gates up to 17, and 18 beyond. The cuts at both ends are kept, and those between are not. How many
 -- candidates a block has, and how many are classified. Assumes nothing.
 use mathlib.Core.Path.{◌≡◌, refl, sym, ap, ap₂, ◌∙◌}
-use mathlib.Core.Logic.{◌⊎◌, inl, inr}
-use mathlib.Core.Bool.{Bool, true, false, cond, ◌||◌}
+use mathlib.Core.Logic.{◌⊎◌, inl, inr, ⊎_elim}
+use mathlib.Core.Bool.{Bool, true, false, cond, or-true}
 use mathlib.Core.List.{List, [], ◌∷◌, ◌++◌, reverse}
 use Prim.Native.Nat.{ℕ, zero, suc, ◌+◌, ◌*◌, ◌-◌, ◌≤◌, ◌<◌, min}
 use native.Mathlib.Nat.{add_comm, add_assoc, zero-add, add-zero, zero-mul, suc-mul, mul-le-mul}
@@ -12,7 +12,7 @@ use lib.ListN.{length, length-append, get_or}
 use lib.Ieee.{Float}
 use borrow.Author.Tests.{le-leb, lt-leb}
 use Rattle.laws.specs.Views.{up_from}
-use Rattle.laws.proofs.Cases.{lt-or-le}
+use Rattle.std.proofs.lemmas.Bool.{cases_lt, cond_both}
 use Rattle.laws.proofs.Views.{up-join}
 use Rattle.fuse.specs.Events.{Event, gone, one, two, three}
 use Rattle.fuse.specs.Fuse.{fused}
@@ -20,7 +20,7 @@ use Rattle.fuse.specs.Compress.{compressed}
 use Rattle.resolve.specs.Choose.{Choice}
 use Rattle.resolve.specs.Cuts.{cut_window, in_window, keep, cuts, ahead}
 use Rattle.resolve.specs.Choose.{offers_of, all_offers, offers}
-use Rattle.resolve.specs.Resolve.{Resolved, lengthened, promised, emptied, renamed, added, passed, item_of, settled}
+use Rattle.resolve.specs.Resolve.{Resolved, lengthened, promised, passed, settled}
 use Rattle.resolve.specs.Resolve.{candidates, classified, chosen, resolve_step, resolved, start_of}
 use Rattle.resolve.specs.Slots.{max_candidates}
 use Rattle.resolve.specs.Whole.{resolved_of, fuse_of}
@@ -63,11 +63,7 @@ module _ (len t : ℕ) where
   near h = rw (le-leb t 8 h)
 
   far : len ≤ t + cut_window → in_window len t ≡ true
-  far h = rw (le-leb len (t + 8) h) (either_true (leb t 8))
-    where
-      either_true : (b : Bool) → (b || true) ≡ true
-      either_true true = refl
-      either_true false = refl
+  far h = rw (le-leb len (t + 8) h) (or-true (leb t 8))
 
   outside : cut_window < t → t + cut_window < len → in_window len t ≡ false
   outside h g = rw (lt-leb t 8 h, lt-leb len (t + 8) g)
@@ -76,7 +72,7 @@ module _ (len t : ℕ) where
 
 pub cuts-short : (len : ℕ) → len ≤ 2 * cut_window + 1 → length (cuts len) ≡ len + 1
 unfolding cuts
-cuts-short len h = keep_all (in_window len) 0 (len + 1) (λ t a b. inside t (lt-or-le 8 t) (omega arith))
+cuts-short len h = keep_all (in_window len) 0 (len + 1) (λ t a b. inside t (cases_lt 8 t) (omega arith))
   where
     inside : (t : ℕ) → (8 < t) ⊎ (t ≤ 8) → t ≤ len → in_window len t ≡ true
     inside t (inl g) b = far len t (omega arith)
@@ -96,7 +92,7 @@ cuts-long len h =
 
 -- so there are one more than the gates, up to 18
 pub cuts-many : (len m : ℕ) → m ≡ min len (2 * cut_window + 1) → (m + 1 ≡ length (cuts len)) × (m + 1 ≤ 18)
-cuts-many len m e = by (lt-or-le len (2 * cut_window + 1))
+cuts-many len m e = by (cases_lt len (2 * cut_window + 1))
   where
     by : (len < 2 * cut_window + 1) ⊎ (2 * cut_window + 1 ≤ len) → (m + 1 ≡ length (cuts len)) × (m + 1 ≤ 18)
     by (inl h) = (omega (arith, e, cuts-short len (omega arith)), omega (arith, e))
@@ -104,11 +100,7 @@ cuts-many len m e = by (lt-or-le len (2 * cut_window + 1))
 
 -- no tail has more than 18
 pub cuts-few : (len : ℕ) → length (cuts len) ≤ 2 * cut_window + 2
-cuts-few len = by (lt-or-le len 17)
-  where
-    by : (len < 17) ⊎ (17 ≤ len) → length (cuts len) ≤ 18
-    by (inl h) = omega (arith, cuts-short len (omega arith))
-    by (inr h) = omega (arith, cuts-long len h)
+cuts-few len = ⊎_elim (λ h. omega (arith, cuts-short len (omega arith))) (λ h. omega (arith, cuts-long len h)) (cases_lt len 17)
 
 -- ---- the candidates of a block
 
@@ -142,12 +134,7 @@ candidates-few a b es =
 -- ---- the candidates classified
 
 settled-tried : (a b n : ℕ) (x : Choice) (angled : Bool) (r : Resolved) → (settled a b n x angled r).tried ≡ r.tried + n
-settled-tried a b n x angled r = by x.class.swap
-  where
-    by : (t : Bool) → (cond t (added (item_of a b x r) 1 n angled (renamed a b (emptied b x.kb (emptied a x.ka r))))
-        (added (item_of a b x r) 0 n angled (emptied b x.kb (emptied a x.ka r)))).tried ≡ r.tried + n
-    by true = refl
-    by false = refl
+settled-tried a b n x angled r = cond_both x.class.swap _ _ (λ (z : Resolved). z.tried ≡ r.tried + n) (λ _. refl) (λ _. refl)
 
 module _ (relabel : Bool) (tol : Float) where
   tried-from : (es : List Event) (r : Resolved) → (resolved relabel tol es r).tried ≡ r.tried + classified es

@@ -1,12 +1,15 @@
 -- An event dealt with, as the definition's step on the event that its record holds; and one event after the other. Assumes nothing.
 use mathlib.Core.Path.{◌≡◌, refl, sym, ap, ap₂, subst, ◌∙◌}
 use mathlib.Core.Logic.{inl, ◌≢◌}
-use mathlib.Core.Bool.{Bool}
+use mathlib.Core.Bool.{Bool, true, false}
 use mathlib.Core.List.{List, []}
 use Prim.Native.Nat.{ℕ, ◌+◌, ◌*◌, ◌-◌, ◌≤◌, ◌<◌}
 use native.Mathlib.Omega.{arith}
+use lib.Dec.{eqb}
 use lib.ListN.{length, get_or}
 use lib.Ieee.{Float, nan}
+use Rattle.std.specs.Int.{from_bool}
+use borrow.Author.Tests.{eqb-true, eqb-false}
 use Rattle.laws.specs.Views.{up_from}
 use Rattle.laws.proofs.Views.{get_or-list_of, up-head, up_same}
 use Rattle.gate.specs.Matrix.{mul4_of, kron_of}
@@ -18,14 +21,17 @@ use Rattle.work.specs.Marks.{mark_at, put_mark}
 use Rattle.work.specs.Columns.{kind_column, a_column, b_column, c_column, lab_column, gone_kind, one_kind, two_kind, three_kind}
 use Rattle.work.proofs.Records.{put-here}
 use Rattle.fuse.specs.Events.{Event, gone, one, two, three}
-use Rattle.fuse.specs.Layout.{matrix2_of, matrix4_of, event_at, Space, Within}
+use Rattle.fuse.specs.Layout.{matrix2_of, matrix4_of, event_at, Within}
+use Rattle.work.specs.Lent.{Lent, Space, Whole, marked}
+use Rattle.fuse.specs.Lent.{SlotsFrom}
 use Rattle.fuse.proofs.Places.{one-at, two_at, three-at, gone_at}
 use Rattle.resolve.specs.Choose.{Search}
 use Rattle.resolve.specs.declared.settle.Tally.{Tally}
 use Rattle.resolve.specs.Cuts.{ahead, cuts, prefix_of}
 use Rattle.resolve.specs.Choose.{offers, choose_of}
 use Rattle.resolve.specs.Resolve.{none, opened, Resolved, passed, settled, closed, candidates, chosen, resolve_step, resolved}
-use Rattle.resolve.specs.Slots.{rest_at, item_at, resolved_at, todo, first_row, second_row, RowOnly, Prefixes, Moved, max_candidates, Dealt, AllDealt}
+use Rattle.resolve.specs.Slots.{rest_at, item_at, resolved_at, todo, first_row, second_row, RowOnly, Prefixes, Moved, counted, max_candidates, Dealt, AllDealt}
+use Rattle.resolve.specs.Lent.{PassesOne, ClosesThree, Deals}
 use Rattle.resolve.proofs.Counts.{offers-many, pairs-few}
 use Rattle.resolve.proofs.Choosing.{choose-same}
 use Rattle.resolve.proofs.Tails.{row-only-event}
@@ -52,16 +58,18 @@ module _ (relabel : Bool) (tol : Float) (xs ys : List Float) (us vs : List ℕ) 
   quiet e m = record { moved = m; swaps = omega (arith, ap (λ (t : Tally). t.swaps) e); tried = omega (arith, ap (λ (t : Tally). t.tried) e) }
 
 module _ (relabel : Bool) (tol : Float) (xs ys : List Float) (us vs : List ℕ) (g n i : ℕ) (t : Tally) where
-  pub one-dealt : mark_at us i kind_column ≡ one_kind → Moved (passed (mark_at us i a_column) (matrix2_of xs i)) xs ys us vs g n i t t → Dealt relabel tol xs ys us vs g n i t t
+  one-dealt : mark_at us i kind_column ≡ one_kind → Moved (passed (mark_at us i a_column) (matrix2_of xs i)) xs ys us vs g n i t t
+      → Dealt relabel tol xs ys us vs g n i t t
   one-dealt k m = quiet relabel tol xs ys us vs g n i t t refl (step relabel tol xs ys us vs g n i t t (one (mark_at us i a_column) (matrix2_of xs i)) (one-at xs us i k) m)
 
-  pub three-dealt : mark_at us i kind_column ≡ three_kind → Moved (closed (mark_at us i a_column) (mark_at us i b_column) (mark_at us i c_column)) xs ys us vs g n i t t
+  three-dealt : mark_at us i kind_column ≡ three_kind
+      → Moved (closed (mark_at us i a_column) (mark_at us i b_column) (mark_at us i c_column)) xs ys us vs g n i t t
       → Dealt relabel tol xs ys us vs g n i t t
   three-dealt k m =
       quiet relabel tol xs ys us vs g n i t t refl
       (step relabel tol xs ys us vs g n i t t (three (mark_at us i a_column) (mark_at us i b_column) (mark_at us i c_column)) (three-at xs us i k) m)
 
-pub gone-dealt : (relabel : Bool) (tol : Float) (xs : List Float) (us : List ℕ) (g n i : ℕ) (t : Tally) → Space xs us g n → i < g → Within us i g n
+gone-dealt : (relabel : Bool) (tol : Float) (xs : List Float) (us : List ℕ) (g n i : ℕ) (t : Tally) → Space xs us g n → i < g → Within us i g n
     → mark_at us i kind_column ≢ one_kind → mark_at us i kind_column ≢ two_kind → mark_at us i kind_column ≢ three_kind
     → Dealt relabel tol xs xs us (put_mark us i kind_column gone_kind) g n i t t
 gone-dealt relabel tol xs us g n i t room h w p q r =
@@ -82,6 +90,30 @@ gone-dealt relabel tol xs us g n i t room h w p q r =
     no_item : item_at xs (put_mark us i 0 0) i ≡ []
     no_item = gone-item xs us i (omega (arith, room.marks))
 
+-- ---- the same of the lent work, by the code's tests
+
+module _ (relabel : Bool) (tol : Float) (w v : Lent) (i : ℕ) (t : Tally) where
+  pub one-deals : PassesOne w v i → eqb (mark_at w.marks i kind_column) one_kind ≡ true → Deals relabel tol w v i t t
+  one-deals p e = record {
+    sizes = p.sizes;
+    dealt = one-dealt relabel tol w.floats v.floats w.marks v.marks w.gates w.slots i t (eqb-true _ _ e) (p.passed t);
+  }
+
+  pub three-deals : ClosesThree w v i → eqb (mark_at w.marks i kind_column) three_kind ≡ true → Deals relabel tol w v i t t
+  three-deals p e = record {
+    sizes = record { gates = p.rest.gates; slots = p.rest.slots };
+    dealt = rw p.rest.floats (three-dealt relabel tol w.floats w.floats w.marks v.marks w.gates w.slots i t (eqb-true _ _ e) (p.closed t));
+  }
+
+  pub gone-deals : v ≡ marked w i kind_column gone_kind → Whole w → i < w.gates → SlotsFrom w i → eqb (mark_at w.marks i kind_column) one_kind ≡ false
+      → eqb (mark_at w.marks i kind_column) two_kind ≡ false → eqb (mark_at w.marks i kind_column) three_kind ≡ false → Deals relabel tol w v i t t
+  gone-deals e whole h s p q r =
+      rw e
+      (record {
+        sizes = record { gates = refl; slots = refl };
+        dealt = gone-dealt relabel tol w.floats w.marks w.gates w.slots i t whole h s (eqb-false _ _ p) (eqb-false _ _ q) (eqb-false _ _ r);
+      })
+
 -- ---- a block
 
 -- the rows of the first tail are not those of the second
@@ -93,7 +125,12 @@ first-stays xs ys t o = mat2-alike xs ys (float_place t first_tail) (λ q a b. a
         let e : q ≡ record_at t + (q - record_at t) = omega arith in
         ap (λ p. get_or ys p nan) e ∙ o.same t (q - record_at t) (omega arith) (inl (omega arith)) ∙ ap (λ p. get_or xs p nan) (sym e)
 
-module _ (relabel : Bool) (tol : Float) (xs xs₁ xs₂ ys : List Float) (us vs : List ℕ) (g n i la lb : ℕ) (t t' : Tally)
+-- a block renames once or not at all
+swaps-few : (swap : Bool) (k : ℕ) → k + from_bool swap ≤ k + 1
+swaps-few true k = omega arith
+swaps-few false k = omega arith
+
+module _ (relabel : Bool) (tol : Float) (xs xs₁ xs₂ : List Float) (us : List ℕ) (g n i la lb : ℕ) (t : Tally)
     (p : Prefixes xs xs₁ us (i + 1) g (mark_at us i a_column) first_tail la) (q : Prefixes xs₁ xs₂ us (i + 1) g (mark_at us i b_column) second_tail lb)
     (sa : mark_at us i a_column < n) (sb : mark_at us i b_column < n) (two-i : mark_at us i kind_column ≡ two_kind) where
   abbrev a : ℕ
@@ -136,11 +173,12 @@ module _ (relabel : Bool) (tol : Float) (xs xs₁ xs₂ ys : List Float) (us vs 
       ∙ ap (λ u. choose_of relabel tol u (prefix_of (ahead a es)) (prefix_of (ahead b es)) (length (ahead a es)) (length (ahead b es)))
       (eb ∙ ap₂ (λ x y. mul4_of (matrix4_of xs i) (kron_of (opened x) (opened y))) (sym (rest-is xs us g n i a t sa)) (sym (rest-is xs us g n i b t sb)))
 
-  pub block-dealt : (s : Search) (tried : ℕ) → tried ≡ length (cuts la) * length (cuts lb) → s ≡ chosen relabel tol a b (matrix4_of xs i) es r
-      → Moved (settled a b tried s.best s.angled) xs₂ ys us vs g n i t t' → t'.swaps ≤ t.swaps + 1 → t'.tried ≡ t.tried + tried
-      → Dealt relabel tol xs ys us vs g n i t t'
-  block-dealt s tried et e m es₁ en = record {
-    moved = step relabel tol xs ys us vs g n i t t' (two a b (matrix4_of xs i)) (two_at xs us i two-i) (record {
+  pub block-dealt : (ys : List Float) (vs : List ℕ) (s : Search) (tried : ℕ) → tried ≡ length (cuts la) * length (cuts lb)
+      → s ≡ chosen relabel tol a b (matrix4_of xs i) es r
+      → Moved (settled a b tried s.best s.angled) xs₂ ys us vs g n i t (counted s.best.class.swap tried s.angled t)
+      → Dealt relabel tol xs ys us vs g n i t (counted s.best.class.swap tried s.angled t)
+  block-dealt ys vs s tried et e m = record {
+    moved = step relabel tol xs ys us vs g n i t (counted s.best.class.swap tried s.angled t) (two a b (matrix4_of xs i)) (two_at xs us i two-i) (record {
       size = m.size ∙ q.only.size ∙ p.only.size;
       marks = m.marks;
       state = m.state ∙ ap (settled a b tried s.best s.angled) same-state
@@ -149,8 +187,8 @@ module _ (relabel : Bool) (tol : Float) (xs xs₁ xs₂ ys : List Float) (us vs 
       lab = m.lab;
       within = m.within;
     });
-    swaps = es₁;
-    tried = omega (arith, en, et, pairs-few la lb);
+    swaps = swaps-few s.best.class.swap t.swaps;
+    tried = omega (arith, et, pairs-few la lb);
   }
 
 -- ---- one event after the other
@@ -195,3 +233,5 @@ module _ (relabel : Bool) (tol : Float) (xs₀ : List Float) (us₀ : List ℕ) 
         lab = d.lab;
         state = ap (λ i. resolved_at xs us g n i t) (sym e) ∙ sym (ap (λ k. resolved relabel tol (up_from (event_at xs us) i k) (resolved_at xs us g n i t)) z) ∙ d.rest;
       }
+
+pub ruleset dealings = (dealing-none, dealing-more, dealing-end)

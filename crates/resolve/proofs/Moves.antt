@@ -2,7 +2,7 @@
 -- in `States`. Assumes nothing.
 use mathlib.Core.Path.{◌≡◌, refl, sym, ap, ap₂, ◌∙◌}
 use mathlib.Core.Logic.{◌≢◌}
-use mathlib.Core.Bool.{Bool, true, false, cond, ◌||◌}
+use mathlib.Core.Bool.{Bool, true, false, cond, ◌||◌, or-false}
 use mathlib.Core.List.{List, [], ◌∷◌}
 use Prim.Native.Nat.{ℕ, ◌+◌, ◌-◌, ◌<◌}
 use native.Mathlib.Nat.{add-zero}
@@ -11,19 +11,23 @@ use lib.Dec.{eqb}
 use lib.ListN.{length, get_or}
 use lib.Ieee.{Float}
 use borrow.Author.Tests.{eq-eqb, ne_eqb}
+use Rattle.std.specs.Int.{from_bool}
 use Rattle.laws.proofs.Views.{get_or-list_of}
 use Rattle.gate.specs.Matrix.{mul2_of}
 use Rattle.gate.specs.declared.matrix.Mat2.{Mat2}
 use Rattle.work.specs.Marks.{mark_at, put_mark}
-use Rattle.work.specs.Columns.{kind_column, a_column, c_column, lab_column, content_column, one_kind, one_item, opaque_item}
-use Rattle.fuse.specs.Layout.{matrix2_of, put_matrix2_of, event_at, Space, Within}
+use Rattle.work.specs.Columns.{kind_column, a_column, b_column, c_column, lab_column, content_column, one_kind, one_item, opaque_item}
+use Rattle.fuse.specs.Layout.{matrix2_of, put_matrix2_of, event_at, Within}
+use Rattle.work.specs.Lent.{Lent, Space, Whole}
+use Rattle.fuse.specs.Lent.{SlotsFrom}
 use Rattle.classify.specs.Classify.{residual_of}
 use Rattle.resolve.specs.Choose.{Choice}
 use Rattle.resolve.specs.declared.settle.Tally.{Tally}
 use Rattle.resolve.specs.Items as Items
 use Rattle.resolve.specs.Items.{kind_of}
 use Rattle.resolve.specs.Resolve.{Resolved, opened, lengthened, promised, emptied, renamed, added, passed, item_of, settled, closed}
-use Rattle.resolve.specs.Slots.{rest_at, split_at, kind_mark, item_at, resolved_at, emptied_marks, traded_marks, item_marks, item_floats, Moved}
+use Rattle.resolve.specs.Slots.{rest_at, split_at, kind_mark, item_at, resolved_at, emptied_marks, traded_marks, item_marks, item_floats, Moved, counted}
+use Rattle.resolve.specs.Lent.{SettlesTwo}
 use Rattle.resolve.proofs.Records.{marks-same, marks-put, floats_same, floats-put2}
 use Rattle.resolve.proofs.States.{slot-event, slot-within, emptied-marks, emptied-state, lengthened-state, promised-state, traded-size, traded-lab, traded-event, traded-within, renamed-state, own-added, own-none, own-event, own-within, item-marks, opaque-item, item-floats, block-item}
 
@@ -103,7 +107,7 @@ module _ (xs : List Float) (us : List ℕ) (g n i : ℕ) (room : Space xs us g n
     pub lab : (q : ℕ) → mark_at vs q lab_column ≡ mark_at us q lab_column
     pub within : Within vs i g n
 
-  pub none-emptied : Emptied (λ r. r) us
+  none-emptied : Emptied (λ r. r) us
   none-emptied = record { size = refl; state = λ t. refl; events = λ j b. refl; lab = λ q. refl; within = w }
 
   pub more-emptied : (f : Resolved → Resolved) (vs : List ℕ) (s k : ℕ) → s < n → Emptied f vs → Emptied (λ r. emptied s k (f r)) (emptied_marks vs g s k)
@@ -118,6 +122,10 @@ module _ (xs : List Float) (us : List ℕ) (g n i : ℕ) (room : Space xs us g n
         within = slot-within g n s xs xs vs (emptied_marks vs g s k) x o i i (omega arith) e.within;
       }
 
+  -- two slots emptied
+  pub two-emptied : (a k b l : ℕ) → a < n → b < n → Emptied (λ r. emptied b l (emptied a k r)) (emptied_marks (emptied_marks us g a k) g b l)
+  two-emptied a k b l la lb = more-emptied (λ r. emptied a k r) (emptied_marks us g a k) b l lb (more-emptied (λ r. r) us a k la none-emptied)
+
   -- ---- an opaque block
 
   pub closed-moved : (a b c : ℕ) (vs : List ℕ) (t : Tally) → Emptied (λ r. emptied c 0 (emptied b 0 (emptied a 0 r))) vs → Moved (closed a b c) xs xs us (item_marks vs i opaque_item 0 0) g n i t t
@@ -128,16 +136,12 @@ module _ (xs : List Float) (us : List ℕ) (g n i : ℕ) (room : Space xs us g n
       record {
         size = refl;
         marks = o.size ∙ e.size;
-        state = own-added g n i xs xs vs ws x o h Items.opaque 0 0 false t t (opaque-item xs vs i 0 0 (omega (arith, room.marks, e.size))) (sym (add-zero t.swaps)) (sym (add-zero t.tried)) (or-false t.angled)
+        state = own-added g n i xs xs vs ws x o h Items.opaque 0 0 false t t (opaque-item xs vs i 0 0 (omega (arith, room.marks, e.size))) (sym (add-zero t.swaps)) (sym (add-zero t.tried)) (sym (or-false t.angled))
             ∙ ap (added Items.opaque 0 0 false) (e.state t);
         later = λ j p b. own-event g n i xs xs vs ws x o h j p ∙ e.events j b;
         lab = λ q. o.lab q ∙ e.lab q;
         within = own-within g n i xs xs vs ws x o h e.within;
       }
-    where
-      or-false : (b : Bool) → b ≡ (b || false)
-      or-false true = refl
-      or-false false = refl
 
   -- ---- a two-qubit block
 
@@ -175,7 +179,7 @@ module _ (xs : List Float) (us : List ℕ) (g n i : ℕ) (room : Space xs us g n
     slots : Within ws (i + 1) g n
     slots = own-within g n i xs ys vs ws (item-floats xs i x.class) (item-marks vs i (kind_mark (kind_of x.class.kind)) wa wb) h e.within
 
-    pub settled_plain : x.class.swap ≡ false → t'.swaps ≡ t.swaps → Moved (settled a b tried x angled) xs ys us ws g n i t t'
+    settled_plain : x.class.swap ≡ false → t'.swaps ≡ t.swaps → Moved (settled a b tried x angled) xs ys us ws g n i t t'
     settled_plain p es = record {
       size = (item-floats xs i x.class).size;
       marks = (item-marks vs i (kind_mark (kind_of x.class.kind)) wa wb).size ∙ e.size;
@@ -185,7 +189,7 @@ module _ (xs : List Float) (us : List ℕ) (g n i : ℕ) (room : Space xs us g n
       within = slots;
     }
 
-    pub settled-swapped : x.class.swap ≡ true → t'.swaps ≡ t.swaps + 1 → Moved (settled a b tried x angled) xs ys us (traded_marks ws a b) g n i t t'
+    settled-swapped : x.class.swap ≡ true → t'.swaps ≡ t.swaps + 1 → Moved (settled a b tried x angled) xs ys us (traded_marks ws a b) g n i t t'
     settled-swapped p es =
         let size = (item-marks vs i (kind_mark (kind_of x.class.kind)) wa wb).size ∙ e.size in
         record {
@@ -197,3 +201,50 @@ module _ (xs : List Float) (us : List ℕ) (g n i : ℕ) (room : Space xs us g n
           lab = λ q. traded-lab ws a b q ∙ labs q;
           within = traded-within ws a b (i + 1) g n slots;
         }
+
+-- ---- a two-qubit block of the lent work
+
+module _ (w v : Lent) (i : ℕ) (x : Choice) (whole : Whole w) (h : i < w.gates) (inside : SlotsFrom w i) where
+  abbrev a : ℕ
+  a = mark_at w.marks i a_column
+
+  abbrev b : ℕ
+  b = mark_at w.marks i b_column
+
+  -- what the code leaves in the slots, and in the block's record
+  abbrev left : List ℕ
+  left = emptied_marks (emptied_marks w.marks w.gates a x.ka) w.gates b x.kb
+
+  abbrev item : List ℕ
+  item = item_marks left i (kind_mark (kind_of x.class.kind)) (mark_at w.marks a content_column) (mark_at w.marks b content_column)
+
+  in-a : a < w.slots
+  in-a = inside.a i (omega arith) h
+
+  in-b : b < w.slots
+  in-b = inside.b i (omega arith) h
+
+  emptied-both : Emptied w.floats w.marks w.gates w.slots i whole h inside (λ r. emptied b x.kb (emptied a x.ka r)) left
+  emptied-both = two-emptied w.floats w.marks w.gates w.slots i whole h inside a x.ka b x.kb in-a in-b
+
+  pub settles_plain : x.class.swap ≡ false → v ≡ record { floats = item_floats w.floats i x.class; marks = item; gates = w.gates; slots = w.slots }
+      → SettlesTwo x w v i
+  settles_plain p e =
+      rw e
+      (record {
+        sizes = record { gates = refl; slots = refl };
+        settled = λ tried angled t.
+            settled_plain w.floats w.marks w.gates w.slots i whole h inside a b tried x angled left
+            (mark_at w.marks a content_column) (mark_at w.marks b content_column) t (counted x.class.swap tried angled t) emptied-both in-a in-b refl refl refl refl p (ap (λ s. t.swaps + from_bool s) p ∙ add-zero t.swaps);
+      })
+
+  pub settles-swapped : x.class.swap ≡ true
+      → v ≡ record { floats = item_floats w.floats i x.class; marks = traded_marks item a b; gates = w.gates; slots = w.slots } → SettlesTwo x w v i
+  settles-swapped p e =
+      rw e
+      (record {
+        sizes = record { gates = refl; slots = refl };
+        settled = λ tried angled t.
+            settled-swapped w.floats w.marks w.gates w.slots i whole h inside a b tried x angled left
+            (mark_at w.marks a content_column) (mark_at w.marks b content_column) t (counted x.class.swap tried angled t) emptied-both in-a in-b refl refl refl refl p (ap (λ s. t.swaps + from_bool s) p);
+      })

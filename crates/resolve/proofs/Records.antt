@@ -9,7 +9,7 @@ use native.Mathlib.Numerals.{add-one}
 use lib.ListN.{length, get_or, set, length-set}
 use lib.Seq.{get_or-set_other}
 use lib.Ieee.{Float, nan}
-use Rattle.laws.proofs.Cases.{eq-or-ne, lt-or-le}
+use Rattle.std.proofs.lemmas.Bool.{cases_lt, cases_eq}
 use Rattle.gate.specs.Lent.{flat}
 use Rattle.gate.specs.declared.matrix.Mat2.{Mat2}
 use Rattle.gate.specs.declared.matrix.Mat4.{Mat4}
@@ -55,7 +55,7 @@ module _ (p : ℕ) where
   pub marks-put : (us vs : List ℕ) (c v : ℕ) → c < 4 → MarksOf p us vs → MarksOf p us (put_mark vs p c v)
   marks-put us vs c v h o = record {
     size = put-size vs p c v ∙ o.size;
-    away = λ j d ne l. ⊎_elim (λ e. rw e (put_record vs p c v j ne)) (λ e. put-column vs p c v j d (omega arith) l (λ z. e (sym z))) (eq-or-ne d c) ∙ o.away j d ne l;
+    away = λ j d ne l. ⊎_elim (λ e. rw e (put_record vs p c v j ne)) (λ e. put-column vs p c v j d (omega arith) l (λ z. e (sym z))) (cases_eq d c) ∙ o.away j d ne l;
     lab = λ j. put-column vs p c v j 4 (omega arith) (omega arith) (λ e. omega arith) ∙ o.lab j;
     wire = λ j. put-column vs p c v j 5 (omega arith) (omega arith) (λ e. omega arith) ∙ o.wire j;
   }
@@ -83,7 +83,7 @@ module _ (p : ℕ) where
 
 -- a place of another record
 elsewhere : (p j q : ℕ) → j ≢ p → record_at j ≤ q → q < float_place j record_floats → (q < record_at p) ⊎ (float_place p record_floats ≤ q)
-elsewhere p j q n a b = by (lt-or-le j p) (lt-or-le p j)
+elsewhere p j q n a b = by (cases_lt j p) (cases_lt p j)
   where
     by : (j < p) ⊎ (p ≤ j) → (p < j) ⊎ (j ≤ p) → (q < record_at p) ⊎ (float_place p record_floats ≤ q)
     by (inl h) _ = inl (omega arith)

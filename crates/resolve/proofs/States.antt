@@ -9,9 +9,9 @@ use native.Mathlib.Omega.{arith}
 use lib.ListN.{length, get_or, set}
 use lib.Seq.{get_or-set_same, get_or-set_other}
 use lib.Ieee.{Float, nan}
-use Rattle.fuse.specs.Layout.{exchanged_marks}
+use Rattle.work.specs.Marks.{exchanged_marks}
 use Rattle.laws.specs.Views.{list_of}
-use Rattle.laws.proofs.Cases.{eq-or-ne}
+use Rattle.std.proofs.lemmas.Bool.{cases_eq}
 use Rattle.laws.proofs.Views.{get_or-list_of}
 use Rattle.gate.specs.Matrix.{mul2_of}
 use Rattle.gate.specs.declared.matrix.Mat2.{Mat2}
@@ -61,12 +61,12 @@ module _ (g n s : ℕ) (xs ys : List Float) (us vs : List ℕ) (f : FloatsOf (g 
   slot-splits-kept : split_at vs g s ≡ split_at us g s → list_of n (split_at vs g) ≡ list_of n (split_at us g)
   slot-splits-kept e =
       listed_same 0 n (split_at us g) (split_at vs g)
-      (λ x b. ⊎_elim (λ p. ap (split_at vs g) p ∙ e ∙ ap (split_at us g) (sym p)) (λ ne. other-split (g + s) xs ys us vs f m g x (λ z. ne (omega arith))) (eq-or-ne x s))
+      (λ x b. ⊎_elim (λ p. ap (split_at vs g) p ∙ e ∙ ap (split_at us g) (sym p)) (λ ne. other-split (g + s) xs ys us vs f m g x (λ z. ne (omega arith))) (cases_eq x s))
 
   slot-rests-kept : rest_at ys vs g s ≡ rest_at xs us g s → list_of n (rest_at ys vs g) ≡ list_of n (rest_at xs us g)
   slot-rests-kept e =
       listed_same none n (rest_at xs us g) (rest_at ys vs g)
-      (λ x b. ⊎_elim (λ p. ap (rest_at ys vs g) p ∙ e ∙ ap (rest_at xs us g) (sym p)) (λ ne. other-rest (g + s) xs ys us vs f m g x (λ z. ne (omega arith))) (eq-or-ne x s))
+      (λ x b. ⊎_elim (λ p. ap (rest_at ys vs g) p ∙ e ∙ ap (rest_at xs us g) (sym p)) (λ ne. other-rest (g + s) xs ys us vs f m g x (λ z. ne (omega arith))) (cases_eq x s))
 
   pub slot-event : (j : ℕ) → j < g → event_at ys vs j ≡ event_at xs us j
   slot-event j l = other-event (g + s) xs ys us vs f m j (λ e. omega arith)
@@ -189,7 +189,7 @@ module _ (us : List ℕ) (a b : ℕ) where
 
     wire-a : wire a ≡ mark_at us b content_column
     unfolding exchanged_marks
-    wire-a = ⊎_elim (λ e. ap wire e ∙ wire-b ∙ ap (λ j. mark_at us j content_column) e) (λ ne. put_record (put_mark us a 5 (mark_at us b 5)) b 5 (mark_at us a 5) a ne ∙ put-here us a 5 (mark_at us b 5) (omega arith)) (eq-or-ne a b)
+    wire-a = ⊎_elim (λ e. ap wire e ∙ wire-b ∙ ap (λ j. mark_at us j content_column) e) (λ ne. put_record (put_mark us a 5 (mark_at us b 5)) b 5 (mark_at us a 5) a ne ∙ put-here us a 5 (mark_at us b 5) (omega arith)) (cases_eq a b)
 
     wire-other : (j : ℕ) → j ≢ a → j ≢ b → wire j ≡ mark_at us j content_column
     unfolding exchanged_marks

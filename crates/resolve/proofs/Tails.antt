@@ -11,9 +11,8 @@ use lib.Dec.{eqb}
 use lib.ListN.{length, get_or, take, length-append}
 use lib.Seq.{take_all, take-append-le}
 use lib.Ieee.{Float, nan}
-use Rattle.std.proofs.lemmas.Bool.{false≢true}
+use Rattle.std.proofs.lemmas.Bool.{cases_lt, or_parts}
 use Rattle.laws.specs.Views.{until, up_from}
-use Rattle.laws.proofs.Cases.{lt-or-le}
 use Rattle.laws.proofs.Views.{up-head, up_same}
 use Rattle.gate.specs.Matrix.{id2, time_step_of, time_product_of, time_product_from}
 use Rattle.gate.specs.Lent.{mat2_at, store2_of, flat}
@@ -31,7 +30,7 @@ use Rattle.resolve.specs.Slots.{todo, RowOnly, PassedOver, Prefixes}
 
 -- ---- the tail, event by event
 
-ahead_none : (w : ℕ) → ahead w [] ≡ []
+pub ahead_none : (w : ℕ) → ahead w [] ≡ []
 unfolding ahead until ones
 ahead_none w = refl
 
@@ -95,23 +94,28 @@ tail-over xs us s j g r p =
     ∙ ap (λ k. ahead s (todo xs us k g)) e
 
 -- gate i is passed over, or it is found
-neither : (x y : Bool) → (x || y) ≡ false → (x ≡ false) × (y ≡ false)
-neither false false e = (refl, refl)
-neither false true e = absurd (false≢true (sym e))
-neither true y e = absurd (false≢true (sym e))
-
 module _ (us : List ℕ) (s j g : ℕ) where
   pub pass-none : j ≤ g → PassedOver us s j g j
   pass-none h = record { low = omega arith; high = h; none = λ i a b. absurd (omega arith) }
 
-  pub pass-more : (i : ℕ) → PassedOver us s j g i → i < g → (block_at us s i || one_at us s i) ≡ false → PassedOver us s j g (i + 1)
-  pass-more i p h e =
-      let both = neither _ _ e in
+  pub pass-more : (i : ℕ) (b o : Bool) → PassedOver us s j g i → i < g → b ≡ block_at us s i → o ≡ one_at us s i → (b || o) ≡ false
+      → PassedOver us s j g (i + 1)
+  pass-more i b o p h eb eo e =
+      let both = or_parts b o e in
       record {
         low = omega (arith, p.low);
         high = omega arith;
-        none = λ q a c. ⊎_elim (λ (e : q ≡ i). (ap (block_at us s) e ∙ both.0, ap (one_at us s) e ∙ both.1)) (λ l. p.none q a l) (eq-or-lt_of_le (le_of_suc-le-suc (rw (← add-one i) c)));
+        none = λ q a c. ⊎_elim (λ (z : q ≡ i). (ap (block_at us s) z ∙ sym eb ∙ both.0, ap (one_at us s) z ∙ sym eo ∙ both.1)) (λ l. p.none q a l)
+            (eq-or-lt_of_le (le_of_suc-le-suc (rw (← add-one i) c)));
       }
+
+  -- all of them
+  pub pass-end : (i : ℕ) → PassedOver us s j g i → g ≤ i → PassedOver us s j g g
+  pass-end i p h =
+      let end : i ≡ g = omega (arith, p.high) in
+      subst (λ n. PassedOver us s j g n) end p
+
+pub ruleset passes_over = (pass-none, pass-more, pass-end)
 
 -- ---- a row of the records
 
@@ -131,7 +135,7 @@ module _ (row : ℕ) where
     where
       apart : (i q : ℕ) → q < record_floats → (q < row) ⊎ (row + row_floats ≤ q)
           → (float_place i q < float_place t row) ⊎ (float_place t row + row_floats ≤ float_place i q)
-      apart i q l a = by (lt-or-le (float_place i q) (float_place t row)) (lt-or-le (float_place i q) (float_place t row + row_floats))
+      apart i q l a = by (cases_lt (float_place i q) (float_place t row)) (cases_lt (float_place i q) (float_place t row + row_floats))
         where
           by : (float_place i q < float_place t row) ⊎ (float_place t row ≤ float_place i q)
               → (float_place i q < float_place t row + row_floats) ⊎ (float_place t row + row_floats ≤ float_place i q)
@@ -170,7 +174,8 @@ pub record Gathering (xs ys : List Float) (us : List ℕ) (k g s row len j : ℕ
   pub now : acc ≡ time_product_of gs
   pub each : (t : ℕ) → t ≤ len → mat2_at ys (float_place t row) ≡ prefix_of gs t
 
-pub gather_none : (xs : List Float) (us : List ℕ) (k g s row : ℕ) (acc : Mat2) → k ≤ g → acc ≡ id2 → mat2_at xs row ≡ acc → Gathering xs xs us k g s row 0 k acc
+pub gather_none : (xs : List Float) (us : List ℕ) (k g s row : ℕ) (acc : Mat2) → k ≤ g → acc ≡ id2 → mat2_at xs (float_place 0 row) ≡ acc
+    → Gathering xs xs us k g s row 0 k acc
 unfolding time_product_of time_product_from prefix_of
 gather_none xs us k g s row acc h e back = record {
   gs = [];
@@ -182,9 +187,8 @@ gather_none xs us k g s row acc h e back = record {
   tail = refl;
   now = e;
   each = λ t l.
-      let p : float_place t row ≡ row = omega arith in
       let z : t ≡ 0 = omega arith in
-      ap (mat2_at xs) p ∙ back ∙ e ∙ sym (ap (λ t. time_product_of (take t [])) z);
+      ap (λ t. mat2_at xs (float_place t row)) z ∙ back ∙ e ∙ sym (ap (λ t. time_product_of (take t [])) z);
 }
 
 module _ (xs ys : List Float) (us : List ℕ) (k g s row len j : ℕ) (acc : Mat2) (low : matrix_floats ≤ row) (high : row + row_floats ≤ record_floats)
@@ -255,7 +259,7 @@ module _ (xs ys : List Float) (us : List ℕ) (k g s row len j : ℕ) (acc : Mat
 
 -- the row of cut 0 was written before the loop
 pub prefixes-after : (xs zs ys : List Float) (us : List ℕ) (k g s row r : ℕ) (m : Mat2) → matrix_floats ≤ row → row + row_floats ≤ record_floats
-    → zs ≡ store2_of xs row m
+    → zs ≡ store2_of xs (float_place 0 row) m
     → Prefixes zs ys us k g s row r → Prefixes xs ys us k g s row r
 prefixes-after xs zs ys us k g s row r m low high e p = record {
   only = row-only-trans row xs zs ys first p.only;
@@ -265,9 +269,7 @@ prefixes-after xs zs ys us k g s row r m low high e p = record {
 }
   where
     first : RowOnly row xs zs
-    first =
-        let z : float_place 0 row ≡ row = omega arith in
-        subst (λ l. RowOnly row xs l) (ap (λ p. store2_of xs p m) z ∙ sym e) (row-only-put row xs xs 0 m high (row-only-same row xs))
+    first = subst (λ l. RowOnly row xs l) (sym e) (row-only-put row xs xs 0 m high (row-only-same row xs))
 
     tails : ahead s (todo zs us k g) ≡ ahead s (todo xs us k g)
     tails = ap (ahead s) (up_same (event_at xs us) (event_at zs us) k (g - k) (λ j a b. row-only-event row xs zs low first us j))

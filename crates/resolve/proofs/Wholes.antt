@@ -8,6 +8,7 @@ use native.Mathlib.Omega.{arith}
 use lib.Ieee.{Float}
 use Rattle.laws.specs.Views.{list_of, down_to, up_from, between}
 use Rattle.laws.proofs.Views.{up_same, up-reverse, down-split}
+use Rattle.work.specs.Lent.{Lent}
 use Rattle.work.specs.Marks.{mark_at, Only}
 use Rattle.work.specs.Columns.{lab_column, content_column}
 use Rattle.tape.specs.Parse.{gates_of}
@@ -16,11 +17,13 @@ use Rattle.fuse.specs.Slotted.{labelled_at, Relabelled}
 use Rattle.fuse.specs.Fuse.{fused}
 use Rattle.fuse.specs.Compress.{compressed}
 use Rattle.fuse.specs.Layout.{Within, event_at, kinds, Passed}
+use Rattle.fuse.specs.Lent.{Passes}
 use Rattle.fuse.proofs.Listed.{listed_same}
 use Rattle.resolve.specs.declared.settle.Tally.{Tally}
 use Rattle.resolve.specs.Resolve.{resolved}
 use Rattle.resolve.specs.Slots.{resolved_at, todo, fresh, AllDealt, Begun, Finished}
 use Rattle.resolve.specs.Whole.{resolved_of, fused_of, fuse_of, fused_at, Whole}
+use Rattle.resolve.specs.Lent.{Begins, DealsAll, Finishes, Fuses}
 
 -- the newest first, turned round
 down-reverse : {A : Type 0} (e : ℕ → A) (g : ℕ) → reverse (down_to e g) ≡ up_from e 0 g
@@ -30,8 +33,8 @@ down-reverse e g =
     ap reverse (all ∙ sym (up-reverse e 0 g)) ∙ reverse-reverse (up_from e 0 g)
 
 -- a pass leaves the slots
-pub only-within : (us vs : List ℕ) (i g n : ℕ) → Only kinds us vs → Within us i g n → Within vs i g n
-only-within us vs i g n o w = record {
+pub only_within : (us vs : List ℕ) (i g n : ℕ) → Only kinds us vs → Within us i g n → Within vs i g n
+only_within us vs i g n o w = record {
   a = λ j l b. rw (o.same j 1 (omega arith) refl) (w.a j l b);
   b = λ j l b. rw (o.same j 2 (omega arith) refl) (w.b j l b);
   c = λ j l b. rw (o.same j 3 (omega arith) refl) (w.c j l b);
@@ -69,6 +72,25 @@ module _ (relabel : Bool) (tol : Float) (xs xs₁ xs₂ ys : List Float) (us us�
     answer = read ∙ ap (fused_of n) state;
     lab = λ x. f.lab x ∙ d.lab x ∙ b.lab x ∙ q.only.same x 4 (omega arith) refl ∙ p.only.same x 4 (omega arith) refl;
   }
+
+-- the same of the lent work
+pub fuses : (relabel : Bool) (tol : Float) (w w₁ w₂ w₃ w₄ v : Lent) (swaps : ℕ) (t : Tally) → Passes fused w w₁ w.gates
+    → Passes compressed w₁ w₂ w₁.gates → Begins w₂ w₃
+    → DealsAll relabel tol w₃ w₄ (fresh swaps) t → Finishes w₄ v → Fuses relabel tol w v swaps t
+fuses relabel tol w w₁ w₂ w₃ w₄ v swaps t p q b d f =
+    let gates₂ = q.sizes.gates ∙ p.sizes.gates in
+    let slots₂ = q.sizes.slots ∙ p.sizes.slots in
+    let gates₃ = b.rest.gates ∙ gates₂ in
+    let slots₃ = b.rest.slots ∙ slots₂ in
+    let gates₄ = d.sizes.gates ∙ gates₃ in
+    let slots₄ = d.sizes.slots ∙ slots₃ in
+    record {
+      sizes = record { gates = f.rest.gates ∙ gates₄; slots = f.rest.slots ∙ slots₄ };
+      whole = rw f.rest.floats
+          (whole_is relabel tol w.floats w₁.floats w₂.floats w₄.floats w.marks w₁.marks w₂.marks w₃.marks w₄.marks v.marks w.gates w.slots swaps t
+          p.passed (rw p.sizes.gates at q.passed) (rw (gates₂, slots₂) at b.begun) (rw (b.rest.floats, gates₃, slots₃) at d.all)
+          (rw (gates₄, slots₄) at f.finished t));
+    }
 
 -- ---- after relabelling
 

@@ -28,6 +28,14 @@ blocks (one w m ∷ es) = blocks es
 blocks (two a b u ∷ es) = suc (blocks es)
 blocks (three a b c ∷ es) = suc (blocks es)
 
+pub blocks-few : (es : List Event) → blocks es ≤ length es
+unfolding blocks
+blocks-few [] = omega arith
+blocks-few (gone ∷ es) = omega (arith, blocks-few es)
+blocks-few (one w m ∷ es) = omega (arith, blocks-few es)
+blocks-few (two a b u ∷ es) = omega (arith, blocks-few es)
+blocks-few (three a b c ∷ es) = omega (arith, blocks-few es)
+
 module _ (relabel : Bool) (tol : Float) where
   -- every block makes one item
   pub items-of-blocks : (es : List Event) (r : Resolved) → length (resolved relabel tol es r).items ≡ length r.items + blocks es

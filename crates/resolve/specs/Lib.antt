@@ -6,3 +6,4 @@ pub mod Searched
 pub mod Resolve
 pub mod Slots
 pub mod Whole
+pub mod Lent

@@ -1,8 +1,10 @@
 -- Where the slots and the items stand in the lent work, with g gates: slot s has the record g + s, which holds its remainder and its split; the wire in it
 -- is a mark of record s. An item stands in the record of its block or, if it is a remainder, of its slot. Assumes nothing.
 -- Only inner functions rest on this.
-use Rattle.std.specs.Prelude.{◌≡◌, ◌⊎◌, Bool, true, false, cond, ◌&&◌, ◌||◌, Option, Some, None, List, [], ◌∷◌, ℕ, ◌+◌, ◌-◌, ◌<◌, ◌≤◌, eqb, leb, length, get_or, set, Float}
+use Rattle.std.specs.Prelude.{◌≡◌, ◌⊎◌, Bool, true, false, cond, ◌&&◌, ◌||◌, Option, Some, None, List, [], ◌∷◌, length, get_or, set}
+use Rattle.std.specs.Prelude.{ℕ, ◌+◌, ◌-◌, ◌<◌, ◌≤◌, eqb, leb, Float}
 use Rattle.std.specs.Float.{nan}
+use Rattle.std.specs.Int.{from_bool}
 use Rattle.laws.specs.Views.{list_of, up_from}
 use Rattle.gate.specs.Lent.{mat2_at}
 use Rattle.gate.specs.declared.matrix.Mat2.{Mat2}
@@ -12,7 +14,8 @@ use Rattle.work.specs.Marks.{mark_at, put_mark}
 use Rattle.work.specs.Columns.{kind_column, a_column, b_column, c_column, lab_column, content_column}
 use Rattle.work.specs.Columns.{gone_kind, one_item, match_item, diagonal_item, interaction_item, neither_item, opaque_item}
 use Rattle.fuse.specs.Events.{Event}
-use Rattle.fuse.specs.Layout.{exchanged_marks, Within, matrix2_of, matrix4_of, put_matrix4_of, event_at, one_at, block_at}
+use Rattle.fuse.specs.Layout.{Within, matrix2_of, matrix4_of, put_matrix4_of, event_at, one_at, block_at}
+use Rattle.work.specs.Marks.{exchanged_marks}
 use Rattle.classify.specs.Classify.{residual_of}
 use Rattle.classify.specs.declared.classify.Class2.{Class2}
 use Rattle.resolve.specs.declared.settle.Tally.{Tally}
@@ -147,6 +150,10 @@ ThreeClosed xs us vs g n i = (t : Tally) → Moved (closed (mark_at us i a_colum
 abbrev pub TwoSettled : ℕ → Choice → Bool → List Float → List Float → List ℕ → List ℕ → ℕ → ℕ → ℕ → Tally → Tally → Type 0
 TwoSettled tried x angled xs ys us vs g n i t t' =
     Moved (settled (mark_at us i a_column) (mark_at us i b_column) tried x angled) xs ys us vs g n i t t'
+
+-- with a block more: whether it is SWAP times what is applied, how many candidates it had, whether one was angled
+abbrev pub counted : Bool → ℕ → Bool → Tally → Tally
+counted swap tried angled t = record { swaps = t.swaps + from_bool swap; tried = t.tried + tried; angled = t.angled || angled }
 
 -- no block has more candidates: 18 cuts of each tail
 abbrev pub max_candidates : ℕ

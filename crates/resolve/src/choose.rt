@@ -1,7 +1,7 @@
 // The best pair of cuts of a block's two closing tails: every pair is tried.
 ghost use Rattle.std.specs.Prelude.{◌≡◌, ◌<◌, IsSome};
 ghost use Rattle.gate.specs.declared.matrix.Mat4.{Mat4};
-ghost use Rattle.work.specs.Rows.{FloatsAt};
+ghost use Rattle.work.specs.Lent.{Has};
 ghost use Rattle.resolve.specs.Cuts.{cuts};
 ghost use Rattle.resolve.specs.Choose.{candidate_of, offer_of, offers_of, try_each, choose_of};
 ghost use Rattle.resolve.specs.Searched.{choice_of, search_of};
@@ -9,10 +9,10 @@ ghost use Rattle.resolve.specs.Slots.{first_row, second_row};
 
 use crate::cuts::in_window;
 use classify::{Class2, Kind2, Rank, classify2};
-use gate::{Mat2, Mat4, Matrix, kron};
-use work::{FIRST_TAIL, RECORD_FLOATS, SECOND_TAIL};
+use gate::{Mat2, Mat4, kron};
+use work::{FIRST_TAIL, SECOND_TAIL, Work};
 
-// The rules of a compilation: whether a SWAP may rename wires, and what counts as nothing.
+// The rules of a compilation: whether a SWAP may rename wires, and what counts as nothing. Passed beside the work, since they are the header's.
 #[derive(Clone, Copy)]
 pub struct Rules {
     pub relabel: bool,
@@ -84,17 +84,18 @@ fn offer(ka: usize, kb: usize, class: Class2, s: Search) -> Search
 }
 
 // Cut ka of the first tail with each cut of the second.
-fn try_row(w: &[f64], rules: Rules, base: Mat4, ka: usize, lb: usize, start: Search) -> Search
-    requires { FloatsAt w.now ka × FloatsAt w.now lb × (ka < 65536) × (lb < 65535) }
+#[tactic(auto, using(crate::proofs::Choosing::rows))]
+fn try_row(work: &Work, rules: Rules, base: Mat4, ka: usize, lb: usize, start: Search) -> Search
+    requires { Has work.now ka × Has work.now lb }
     ensures searched { search_of base result
-        ≡ try_each rules.relabel rules.tol base (first_row w.now) (second_row w.now) (offers_of ka (cuts lb)) (search_of base start) }
+        ≡ try_each rules.relabel rules.tol base (first_row work.now.floats) (second_row work.now.floats) (offers_of ka (cuts lb)) (search_of base start) }
     ensures found { IsSome result.best }
 {
-    let ma = Mat2::load(w, RECORD_FLOATS * ka + FIRST_TAIL);
+    let ma = work.matrix_at::<Mat2>(ka, FIRST_TAIL);
     let mut s = start;
     for kb in 0..lb + 1 {
         if in_window(lb, kb) {
-            let mb = Mat2::load(w, RECORD_FLOATS * kb + SECOND_TAIL);
+            let mb = work.matrix_at::<Mat2>(kb, SECOND_TAIL);
             let class = classify2(rules.relabel, rules.tol, kron(ma, mb) * base);
             s = offer(ka, kb, class, s);
         }
@@ -103,9 +104,11 @@ fn try_row(w: &[f64], rules: Rules, base: Mat4, ka: usize, lb: usize, start: Sea
 }
 
 // The best pair of cuts of tails of la and lb gates, whose prefixes stand in the records.
-pub fn choose(w: &[f64], rules: Rules, base: Mat4, la: usize, lb: usize) -> Search
-    requires { FloatsAt w.now la × FloatsAt w.now lb × (la < 65535) × (lb < 65535) }
-    ensures searched { search_of base result ≡ choose_of rules.relabel rules.tol base (first_row w.now) (second_row w.now) la lb }
+#[tactic(auto, using(crate::proofs::Choosing::searches))]
+pub fn choose(work: &Work, rules: Rules, base: Mat4, la: usize, lb: usize) -> Search
+    requires { Has work.now la × Has work.now lb × (la < 65535) }
+    ensures searched { search_of base result
+        ≡ choose_of rules.relabel rules.tol base (first_row work.now.floats) (second_row work.now.floats) la lb }
     ensures found { IsSome result.best }
 {
     let mut s = Search {
@@ -114,7 +117,7 @@ pub fn choose(w: &[f64], rules: Rules, base: Mat4, la: usize, lb: usize) -> Sear
     };
     for ka in 0..la + 1 {
         if in_window(la, ka) {
-            s = try_row(w, rules, base, ka, lb, s);
+            s = try_row(work, rules, base, ka, lb, s);
         }
     }
     s

@@ -1,81 +1,70 @@
 // All events in time order.
-ghost use Rattle.std.specs.Prelude.{◌≡◌, ◌+◌, ◌*◌, ◌^◌, ◌<◌, ◌≤◌};
+ghost use Rattle.std.specs.Prelude.{◌≡◌, ◌^◌, ◌<◌, ◌≤◌};
 ghost use Rattle.work.specs.Marks.{mark_at};
 ghost use Rattle.work.specs.Columns.{kind_column, two_kind};
-ghost use Rattle.fuse.specs.Layout.{Space, Within};
-ghost use Rattle.resolve.specs.Slots.{Dealt, AllDealt, fresh};
+ghost use Rattle.fuse.specs.Lent.{SlotsFrom};
+ghost use Rattle.resolve.specs.Slots.{fresh};
+ghost use Rattle.resolve.specs.Lent.{Deals, DealsAll};
 
 use crate::choose::{Rules, choose};
 use crate::cuts::{cut_count, prefixes};
 use crate::settle::{Tally, close, opening, pass, settle};
-use fuse::matrix;
 use gate::{Mat4, kron};
-use work::{A, B, FIRST_TAIL, Kind, SECOND_TAIL, has_kind, mark, put_kind};
+use work::{A, B, FIRST_TAIL, Kind, SECOND_TAIL, Work};
 
-// The two-qubit block i: with what is open on its slots, and the best cuts of the tails after it.
-fn block(
-    w: &mut [f64],
-    u: &mut [u32],
-    g: usize,
-    n: usize,
-    rules: Rules,
-    i: usize,
-    t: Tally,
-) -> Tally
-    requires space { Space w.old u.old g n × (i < g) × Within u.old i g n × (mark_at u.old i kind_column ≡ two_kind) }
+// The two-qubit block i: with what is open on its slots, and the best cuts of the tails after it. The counts grow with the loop, so that their bound
+// (`tried_bound`) is no fact of a Tally.
+fn block(work: &mut Work, rules: Rules, i: usize, t: Tally) -> Tally
+    requires event { (i < work.old.gates) × SlotsFrom work.old i × (mark_at work.old.marks i kind_column ≡ two_kind) }
     requires tried_bound { (t.tried < 2 ^ 32) × (t.swaps < 2 ^ 32) }
-    ensures { Dealt rules.relabel rules.tol w.old w.new u.old u.new g n i t result }
+    ensures { Deals rules.relabel rules.tol work.old work.new i t result }
 {
-    let a = mark(u, i, A);
-    let b = mark(u, i, B);
-    let x = opening(w, u, g, a as usize);
-    let y = opening(w, u, g, b as usize);
-    let base = matrix::<Mat4>(w, i) * kron(x, y);
-    let la = prefixes(w, u, i + 1, g, a, FIRST_TAIL);
-    let lb = prefixes(w, u, i + 1, g, b, SECOND_TAIL);
-    let s = choose(w, rules, base, la, lb);
+    let a = work.mark(i, A);
+    let b = work.mark(i, B);
+    let x = opening(work, a as usize);
+    let y = opening(work, b as usize);
+    let base = work.matrix::<Mat4>(i) * kron(x, y);
+    let la = prefixes(work, i + 1, a, FIRST_TAIL);
+    let lb = prefixes(work, i + 1, b, SECOND_TAIL);
+    let s = choose(work, rules, base, la, lb);
     let tried = cut_count(la) * cut_count(lb);
-    settle(w, u, g, n, i, s.best.unwrap(), s.angled, tried, t)
+    let best = s.best.unwrap();
+    settle(work, i, best);
+    t.counted(best.class.swap, tried, s.angled)
 }
 
 // Event i. By tests and not by a match on its kind: the last arm of a match would not know that it is none of the three.
-fn deal(w: &mut [f64], u: &mut [u32], g: usize, n: usize, rules: Rules, i: usize, t: Tally) -> Tally
-    requires space { Space w.old u.old g n × (i < g) × Within u.old i g n }
+fn deal(work: &mut Work, rules: Rules, i: usize, t: Tally) -> Tally
+    requires event { (i < work.old.gates) × SlotsFrom work.old i }
     requires tried_bound { (t.tried < 2 ^ 32) × (t.swaps < 2 ^ 32) }
-    ensures { Dealt rules.relabel rules.tol w.old w.new u.old u.new g n i t result }
+    ensures { Deals rules.relabel rules.tol work.old work.new i t result }
 {
-    if has_kind(u, i, Kind::Two) {
-        return block(w, u, g, n, rules, i, t);
+    if work.is(i, Kind::Two) {
+        return block(work, rules, i, t);
     }
-    if has_kind(u, i, Kind::One) {
-        pass(w, u, g, n, i);
-    } else if has_kind(u, i, Kind::Three) {
-        close(w, u, g, n, i);
+    if work.is(i, Kind::One) {
+        pass(work, i);
+    } else if work.is(i, Kind::Three) {
+        close(work, i);
     } else {
-        put_kind(u, i, Kind::Gone);
+        work.put_kind(i, Kind::Gone);
     }
     t
 }
 
 // All events, from `swaps` renamings on.
-pub fn resolve_all(
-    w: &mut [f64],
-    u: &mut [u32],
-    g: usize,
-    n: usize,
-    rules: Rules,
-    swaps: usize,
-) -> Tally
-    requires { Space w.old u.old g n × Within u.old 0 g n × (swaps ≤ g) }
-    ensures { AllDealt rules.relabel rules.tol w.old w.new u.old u.new g n (fresh swaps) result }
+#[tactic(auto, using(crate::proofs::Dealing::dealings))]
+pub fn resolve_all(work: &mut Work, rules: Rules, swaps: usize) -> Tally
+    requires { SlotsFrom work.old 0 × (swaps ≤ work.old.gates) }
+    ensures { DealsAll rules.relabel rules.tol work.old work.new (fresh swaps) result }
 {
     let mut t = Tally {
         swaps,
         tried: 0,
         angled: false,
     };
-    for i in 0..g {
-        t = deal(w, u, g, n, rules, i, t);
+    for i in 0..work.gates() {
+        t = deal(work, rules, i, t);
     }
     t
 }

@@ -1,18 +1,15 @@
 -- Laws of the marks: what is put is read back, other columns and other records stay; and of "only these columns have changed".
 -- A place has its record and its column in one way, by linear arithmetic. Assumes nothing.
 use mathlib.Core.Path.{◌≡◌, refl, sym, ap, ◌∙◌}
-use mathlib.Core.Logic.{◌⊎◌, inl, inr, ◌≢◌}
+use mathlib.Core.Logic.{◌≢◌}
 use mathlib.Core.Bool.{Bool, true, false, true≢false}
 use mathlib.Core.List.{List}
 use Prim.Native.Nat.{ℕ, ◌<◌}
 use native.Mathlib.Omega.{arith}
 use lib.ListN.{length, length-set}
 use lib.Seq.{get_or-set_same, get_or-set_other}
-use borrow.Author.Tests.{eq-eqb, ne_eqb}
-use Rattle.laws.specs.Tables.{update}
-use Rattle.laws.proofs.Cases.{eq-or-ne}
 use Rattle.work.specs.Sizes.{record_marks}
-use Rattle.work.specs.Marks.{mark_place, mark_at, put_mark, column, Only}
+use Rattle.work.specs.Marks.{mark_place, mark_at, put_mark, Only}
 
 -- ---- addresses
 
@@ -44,14 +41,6 @@ module _ (us : List ℕ) (i c v : ℕ) where
   pub put_record : (j : ℕ) → j ≢ i → mark_at (put_mark us i c v) j c ≡ mark_at us j c
   unfolding put_mark mark_at
   put_record j ne = get_or-set_other us (mark_place i c) (mark_place j c) v 0 (record_of i j c ne)
-
-  -- the column is the same table with one place changed
-  pub put-update : mark_place i c < length us → (j : ℕ) → column c (put_mark us i c v) j ≡ update i v (column c us) j
-  put-update h j = by (eq-or-ne j i)
-    where
-      by : (j ≡ i) ⊎ (j ≢ i) → column c (put_mark us i c v) j ≡ update i v (column c us) j
-      by (inl e) = rw (eq-eqb j i e, e) (put-here h)
-      by (inr ne) = rw (ne_eqb j i ne) (put_record j ne)
 
 -- ---- only these columns
 

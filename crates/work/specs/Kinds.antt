@@ -1,5 +1,5 @@
 -- The kinds of a record as numbers: of an event, then of an item. Assumes nothing. Only inner functions rest on this.
-use Rattle.std.specs.Prelude.{cond, ℕ, eqb, Option, Some, None}
+use Rattle.std.specs.Prelude.{Bool, cond, ◌&&◌, ℕ, eqb, leb, Option, Some, None}
 use Rattle.work.specs.declared.kinds.Kind.{Kind}
 use Rattle.work.specs.Columns.{gone_kind, one_kind, two_kind, three_kind}
 use Rattle.work.specs.Columns.{one_item, match_item, diagonal_item, interaction_item, neither_item, opaque_item}
@@ -30,3 +30,11 @@ kind_of v =
     (cond (eqb v interaction_item) (Some Kind.InteractionItem)
     (cond (eqb v neither_item) (Some Kind.NeitherItem)
     (cond (eqb v opaque_item) (Some Kind.OpaqueItem) None)))))))))
+
+-- it is an item's
+abbrev pub is_item_of : ℕ → Bool
+is_item_of k = leb one_item k && leb k opaque_item
+
+-- the kind of the item that a record with this mark holds
+unfoldable pub item_kind_of : ℕ → Option Kind
+item_kind_of k = cond (is_item_of k) (kind_of k) None

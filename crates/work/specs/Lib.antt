@@ -2,5 +2,6 @@
 pub mod Sizes
 pub mod Rows
 pub mod Marks
+pub mod Lent
 pub mod Columns
 pub mod Kinds

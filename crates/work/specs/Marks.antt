@@ -15,6 +15,10 @@ mark_at us i c = get_or us (mark_place i c) 0
 unfoldable pub put_mark : List ℕ → ℕ → ℕ → ℕ → List ℕ
 put_mark us i c v = set us (mark_place i c) v
 
+-- the marks of two records in a column, exchanged
+unfoldable pub exchanged_marks : List ℕ → ℕ → ℕ → ℕ → List ℕ
+exchanged_marks us a b c = put_mark (put_mark us a c (mark_at us b c)) b c (mark_at us a c)
+
 -- column c as a table
 abbrev pub column : ℕ → List ℕ → ℕ → ℕ
 column c us i = mark_at us i c

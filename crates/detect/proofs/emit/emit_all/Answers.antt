@@ -1,29 +1,30 @@
 -- `detect::emit::emit_all` meets its contract: after i records the operations of their items are written. Assumes nothing.
 use mathlib.Core.Path.{◌≡◌, refl, sym, ap, ◌∙◌}
+use mathlib.Core.Bool.{true}
 use mathlib.Core.List.{List, ◌++◌}
-use Prim.Native.Nat.{◌+◌, ◌≤◌}
+use Prim.Native.Nat.{ℕ, ◌+◌, ◌-◌, ◌≤◌, ◌<◌}
 use native.Mathlib.Omega.{arith}
 use lib.ListN.{length}
-use Rattle.work.specs.Columns.{kind_column}
-use Rattle.detect.specs.Records.{is_item_of}
-use Rattle.work.specs.Marks.{mark_at}
 use lib.Ieee.{Float}
-use Prim.Native.Nat.{ℕ, ◌<◌}
-use mathlib.Core.Bool.{true}
+use borrow.Rule.Slice.PartMut.{put_mid}
+use Rattle.work.specs.Columns.{kind_column}
+use Rattle.work.specs.Kinds.{is_item_of}
+use Rattle.work.specs.Marks.{mark_at}
+use Rattle.work.proofs.ItemKinds.{item_some, item_none}
 use Rattle.detect.specs.Operation.{all_places}
 use Rattle.detect.specs.Emit.{item_operations, operations_in}
 use Rattle.detect.specs.Records.{record_item, items_in, modes_in}
-use Rattle.detect.proofs.Items.{item_some, item_none, items-same, items-none, items-few, below_at}
-use Rattle.detect.proofs.Placing.{put-none, next-room}
+use Rattle.detect.proofs.Items.{items-same, items-none, items-few, below_at}
+use Rattle.detect.proofs.Placing.{put-none, rest-there, rest-room, put_rest}
 use Rattle.detect.proofs.Emitting.{emitted, emitted-none, emitted-more, emitted-same, emitted-fits, turn-put, turn-number, turn-length}
 use Rattle.detect.proofs.emit.emit_all.Goals as goal
 use Rattle.detect.proofs.emit.emit_all.Goals.{in-Some, in_default}
 
 pub loop-i-init : goal.loop-i-init
 loop-i-init c =
-    let a = c.args in (
-      rw (emitted-none a.w.now a.u.now (modes_in a.u.now)) (put-none 0 a.ops.now),
-      sym (ap length (items-none a.w.now a.u.now)),
+    let w = c.args.work.now in (
+      rw (emitted-none w.floats w.marks (modes_in w.marks)) (put-none 0 c.args.ops.now),
+      sym (ap length (items-none w.floats w.marks)),
       refl,
     )
 
@@ -35,36 +36,53 @@ room w u o m i h t is =
     let pos = modes_in u in
     omega (arith, h, emitted-fits w u pos (i + 1) m (omega (arith, t)), ap (λ os. length (all_places os)) (emitted-more w u pos i is))
 
-pub put_item-p-requires : goal.put_item-p-requires
-put_item-p-requires c =
+pub put_item-p-requires-clause-there : goal.put_item-p-requires-clause-there
+put_item-p-requires-clause-there c =
+    let w = c.args.work.now in
+    let i = c.loop-i.i in
+    let t : i < w.gates + w.slots = omega (arith, c.loop-i-test.true, c.gates.ensures.count, c.slots.ensures.count) in
+    let is = (item_some _ _ (sym c.item_kind.ensures.value ∙ c.in-Some.is)).1 in
+    ((t, below_at w.floats w.marks w.slots (w.gates + w.slots) i c.requires.there.0 t is), c.requires.there.1 i t)
+
+pub put_item-p-requires-clause-kind : goal.put_item-p-requires-clause-kind
+put_item-p-requires-clause-kind c = (item_some _ _ (sym c.item_kind.ensures.value ∙ c.in-Some.is)).0
+
+pub put_item-p-requires-clause-room : goal.put_item-p-requires-clause-room
+put_item-p-requires-clause-room c =
+    let w = c.args.work.now in
+    let o = c.args.ops.now in
     let l = c.loop-i in
-    let a = c.args in
-    let h = c.requires.held.0 in
-    let t = c.loop-i-test.true in
-    let pos = modes_in a.u.now in
-    let kind = item_some _ _ (sym c.item_kind.ensures ∙ c.in-Some.is) in
-    let is = kind.1 in
-    record { kind = kind.0; item_there = ((omega (arith, h.floats, t), omega (arith, h.marks, t), h.modes, below_at a.w.now a.u.now a.n a.m l.i h.below t is), c.requires.held.1 l.i t); i_in_bounds = rw l.invariant.1 (next-room 0 a.ops.now (emitted a.w.now a.u.now pos l.i) (item_operations pos (length (items_in a.w.now a.u.now l.i)) (record_item a.w.now a.u.now l.i)) (omega (arith, room a.w.now a.u.now a.ops.now a.m l.i c.requires.m_in_bounds t is)) l.ops l.p l.invariant.0) }
+    let t : l.i < w.gates + w.slots = omega (arith, c.loop-i-test.true, c.gates.ensures.count, c.slots.ensures.count) in
+    let is = (item_some _ _ (sym c.item_kind.ensures.value ∙ c.in-Some.is)).1 in
+    rw l.invariant.1 (rest-room _ _ _ (room w.floats w.marks o (w.gates + w.slots) l.i c.requires.room t is) l.invariant.0)
 
 pub overflow_add-block : goal.overflow_add-block
 overflow_add-block c =
+    let w = c.args.work.now in
     let l = c.loop-i in
-    omega (arith, l.invariant.1, items-few c.args.w.now c.args.u.now l.i, c.loop-i-test.true, c.requires.held.0.few)
+    let t = c.loop-i-test.true in
+    omega (arith, l.invariant.1, items-few w.floats w.marks l.i, t, c.gates.ensures.count, c.slots.ensures.count, c.gates.ensures.whole.few)
 
 pub loop-i-preserved : goal.loop-i-preserved
 loop-i-preserved c =
+    let w = c.args.work.now in
+    let o = c.args.ops.now in
     let l = c.loop-i in
-    let a = c.args in
-    let pos = modes_in a.u.now in
+    let pos = modes_in w.marks in
+    let t : l.i < w.gates + w.slots = omega (arith, c.loop-i-test.true, c.gates.ensures.count, c.slots.ensures.count) in
     elim c.match-item_kind.branch [
-      | in-Some w ↦
-          let is = (item_some _ _ (sym c.item_kind.ensures ∙ w.in-Some.is)).1 in
-          let fits = room a.w.now a.u.now a.ops.now a.m l.i c.requires.m_in_bounds c.loop-i-test.true is in
-          let all = turn-put a.w.now a.u.now pos l.i l.p w.put_item-p.result l.block a.ops.now l.ops w.put_item-p.new.ops is l.invariant.0 l.invariant.1 w.put_item-p.ensures fits in
-          let number = turn-number a.w.now a.u.now pos l.i l.p w.put_item-p.result l.block a.ops.now l.ops w.put_item-p.new.ops is l.invariant.0 l.invariant.1 w.put_item-p.ensures fits in
-          let long = turn-length a.w.now a.u.now pos l.i l.p w.put_item-p.result l.block a.ops.now l.ops w.put_item-p.new.ops is l.invariant.0 l.invariant.1 w.put_item-p.ensures fits in
-          rw (w.ops-is, w.p-is, w.block-is) (all, number, long)
-      | in_default w ↦
-          let is = item_none _ (sym c.item_kind.ensures ∙ w.in_default.is) in
-          rw (w.ops-is, w.p-is, w.block-is, emitted-same a.w.now a.u.now pos l.i is, items-same a.w.now a.u.now l.i is) (l.invariant.0, l.invariant.1, l.invariant.2)
+      | in-Some b ↦
+          let is = (item_some _ _ (sym c.item_kind.ensures.value ∙ b.in-Some.is)).1 in
+          let fits = room w.floats w.marks o (w.gates + w.slots) l.i c.requires.room t is in
+          let x = b.put_item-p in
+          let p = l.p + x.result in
+          let ops = put_mid l.p (length l.ops - l.p) l.ops x.new.ops in
+          let new = put_rest l.p l.ops (omega (arith, rest-there _ _ _ fits l.invariant.0)) x.ensures in
+          let all = turn-put w.floats w.marks pos l.i l.p p l.block o l.ops ops is l.invariant.0 l.invariant.1 new fits in
+          let number = turn-number w.floats w.marks pos l.i l.p p l.block o l.ops ops is l.invariant.0 l.invariant.1 new fits in
+          let long = turn-length w.floats w.marks pos l.i l.p p l.block o l.ops ops is l.invariant.0 l.invariant.1 new fits in
+          rw (b.ops-is, b.p-is, b.block-is) (all, number, long)
+      | in_default b ↦
+          let is = item_none _ (sym c.item_kind.ensures.value ∙ b.in_default.is) in
+          rw (b.ops-is, b.p-is, b.block-is, emitted-same w.floats w.marks pos l.i is, items-same w.floats w.marks l.i is) l.invariant
     ]

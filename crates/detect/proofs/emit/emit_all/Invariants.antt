@@ -8,4 +8,6 @@ use Rattle.detect.proofs.emit.emit_all.Given as goal
 
 abbrev pub invariant-loop-i : goal.invariant-loop-i
 invariant-loop-i l =
-    Put (emitted l.w l.u (modes_in l.u) l.i) 0 l.initial.ops l.ops l.p × (l.block ≡ length (items_in l.w l.u l.i)) × (length l.ops ≡ length l.initial.ops)
+    let w = l.work in
+    Put (emitted w.floats w.marks (modes_in w.marks) l.i) 0 l.initial.ops l.ops l.p
+    × (l.block ≡ length (items_in w.floats w.marks l.i)) × (length l.ops ≡ length l.initial.ops)

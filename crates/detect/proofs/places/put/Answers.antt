@@ -1,11 +1,13 @@
 -- `detect::places::put` meets its contract. Assumes nothing.
+use mathlib.Core.Path.{sym, ap, ◌∙◌}
+use mathlib.Core.List.{◌++◌}
 use native.Mathlib.Omega.{arith}
+use lib.ListN.{drop}
+use lib.Seq.{take_all}
+use Rattle.laws.specs.Bounds.{op_places}
 use Rattle.detect.proofs.places.put.Goals as goal
 
-pub copy-requires : goal.copy-requires
-copy-requires c =
-    let h = c.requires in
-    (omega (arith, h.1), h.0)
-
-pub returns : goal.returns
-returns c = c.copy.ensures
+pub returns-clause-put : goal.returns-clause-put
+returns-clause-put c =
+    ap (λ y. y ++ drop op_places c.args.l.now)
+    (c.copy_from_slice.ensures.after ∙ sym (take_all op_places c.args.x.now (omega (arith, c.requires.0))))

@@ -2,12 +2,13 @@
 use mathlib.Core.Path.{sym, ap, ◌∙◌}
 use lib.ListN.{length}
 use lib.Seq.{length-take-le}
+use Rattle.std.proofs.lemmas.Bool.{cond-true, cond-false}
 use Rattle.gate.specs.Complex.{f0}
 use Rattle.laws.specs.Slices.{filled}
 use Rattle.tape.specs.Parse.{content_of, parse}
 use Rattle.work.specs.Sizes.{work_floats, work_marks}
 use Rattle.detect.specs.Questions.{early, answer_of, work_after, ops_after}
-use Rattle.detect.proofs.Checking.{taken, left, lent-short, lent-parts, front-filled, asked-refused, asked-good, read-good}
+use Rattle.detect.proofs.Checking.{lent-short, lent-parts, front-filled, asked-refused, asked-good, read-good}
 use Rattle.detect.proofs.Judging.{told_err, after_work}
 use Rattle.detect.proofs.questions.compile_judged.Goals as goal
 
@@ -41,7 +42,7 @@ returns-in_err-parts g c = λ next j.
     let w = length a.work.now in
     let u = length a.marks.now in
     let short = lent-short k.gates k.header.n w u (sym c.in_err-parts.ensures) in
-    let no = asked-good (parse a.tape.now) _ _ _ (sym c.in_ok-c.ensures) next w u ∙ left _ (next k.header (content_of (parse a.tape.now))) (early 9 0) short.0 in
+    let no = asked-good (parse a.tape.now) _ _ _ (sym c.in_ok-c.ensures) next w u ∙ cond-false _ (next k.header (content_of (parse a.tape.now))) (early 9 0) short.0 in
     record {
       answer = rw short.1 at (told_err _ _ c.from_residual-in_err-parts.ensures.1) ∙ sym (ap answer_of no);
       floats = sym (ap (λ x. work_after work_floats f0 x a.work.now) no);
@@ -71,7 +72,7 @@ returns g c = λ next j.
     let u = length a.marks.now in
     let p = lent-parts _ _ w u (sym c.in_ok-parts.ensures) in
     let count = (read-good a.tape.now _ _ _ (sym c.in_ok-c.ensures)).gates.count in
-    let yes = asked-good (parse a.tape.now) _ _ _ (sym c.in_ok-c.ensures) next w u ∙ taken _ (next h k) (early 9 0) p.some in
+    let yes = asked-good (parse a.tape.now) _ _ _ (sym c.in_ok-c.ensures) next w u ∙ cond-true _ (next h k) (early 9 0) p.some in
     let made = c.compile_in.ensures.answer (next h k) (j h k) in
     record {
       answer = made.0 ∙ sym (ap answer_of yes);

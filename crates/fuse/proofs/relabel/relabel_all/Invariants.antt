@@ -4,4 +4,4 @@ use Rattle.fuse.proofs.Labels.{Relabelling}
 use Rattle.fuse.proofs.relabel.relabel_all.Given as goal
 
 abbrev pub invariant-loop-k : goal.invariant-loop-k
-invariant-loop-k l = Relabelling l.relabel l.tape l.initial.w l.initial.u l.g l.n l.w l.u l.swaps l.at l.k
+invariant-loop-k l = Relabelling l.relabel l.tape l.fn.work l.work l.swaps l.at l.k

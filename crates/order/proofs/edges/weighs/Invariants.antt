@@ -1,3 +1,4 @@
+-- `order::edges::weighs` meets its contract: the sum so far is that of the edges from i on, and small. Assumes nothing.
 use mathlib.Core.Path.{◌≡◌}
 use Prim.Native.Nat.{◌+◌, ◌*◌, ◌-◌, ◌≤◌}
 use Rattle.laws.specs.Views.{up_from}
@@ -6,4 +7,8 @@ use Rattle.order.specs.Weights.{weighs_of}
 use Rattle.order.proofs.edges.weighs.Given as goal
 
 abbrev pub invariant-loop-i : goal.invariant-loop-i
-invariant-loop-i l = (l.i ≤ l.m) × (l.s ≡ weighs_of (up_from (edge_at l.u) l.i (l.m - l.i))) × (l.s + 0x1_0000_0000 * l.i ≤ 0x1_0000_0000 * l.m)
+invariant-loop-i l = record {
+  down : l.i ≤ l.m;
+  sum : l.s ≡ weighs_of (up_from (edge_at l.work.marks) l.i (l.m - l.i));
+  small : l.s + 0x1_0000_0000 * l.i ≤ 0x1_0000_0000 * l.m;
+}

@@ -11,4 +11,10 @@ use Rattle.resolve.proofs.Choosing.{cuts_from}
 use Rattle.resolve.proofs.choose.choose.Given as goal
 
 abbrev pub invariant-loop-ka : goal.invariant-loop-ka
-invariant-loop-ka l = (l.ka ≤ l.la + 1) × (try_each l.rules.relabel l.rules.tol l.base (first_row l.w) (second_row l.w) (all_offers (cuts_from l.la l.ka) (cuts l.lb)) (search_of l.base l.s) ≡ choose_of l.rules.relabel l.rules.tol l.base (first_row l.w) (second_row l.w) l.la l.lb) × (0 < l.ka → IsSome l.s.best)
+invariant-loop-ka l =
+    let pa = first_row l.work.floats in
+    let pb = second_row l.work.floats in
+    let left = all_offers (cuts_from l.la l.ka) (cuts l.lb) in
+    (l.ka ≤ l.la + 1)
+    × (try_each l.rules.relabel l.rules.tol l.base pa pb left (search_of l.base l.s) ≡ choose_of l.rules.relabel l.rules.tol l.base pa pb l.la l.lb)
+    × (0 < l.ka → IsSome l.s.best)

@@ -3,4 +3,4 @@ use Rattle.resolve.specs.Slots.{PassedOver}
 use Rattle.resolve.proofs.cuts.next_on.Given as goal
 
 abbrev pub invariant-loop-i : goal.invariant-loop-i
-invariant-loop-i l = PassedOver l.u l.s l.j l.g l.i
+invariant-loop-i l = PassedOver l.work.marks l.s l.j l.work.gates l.i

@@ -1,33 +1,23 @@
 -- `resolve::events::deal` meets its contract: each kind of event by its law.
 -- Assumes nothing.
 use mathlib.Core.Path.{sym, ◌∙◌}
-use borrow.Author.Tests.{eqb-true, eqb-false}
-use Rattle.resolve.proofs.Dealing.{one-dealt, three-dealt, gone-dealt}
+use borrow.Author.Tests.{eqb-true}
+use Rattle.resolve.proofs.Dealing.{one-deals, three-deals, gone-deals}
 use Rattle.resolve.proofs.events.deal.Goals as goal
 
-pub block-requires-clause-space : goal.block-requires-clause-space
-block-requires-clause-space c =
-    (c.requires.space.0, c.requires.space.1, c.requires.space.2, eqb-true _ _ (sym c.has_kind.ensures ∙ c.if-has_kind.true))
+pub block-requires-clause-event : goal.block-requires-clause-event
+block-requires-clause-event c = (c.requires.event.0, c.requires.event.1, eqb-true _ _ (sym c.is.ensures.value ∙ c.if-is.true))
 
 pub pass-requires : goal.pass-requires
-pass-requires c =
-    (c.requires.space.0, c.requires.space.1, c.requires.space.2, eqb-true _ _ (sym c.has_kind-2.ensures ∙ c.if-has_kind-2.true))
+pass-requires c = (c.requires.event.0, c.requires.event.1, eqb-true _ _ (sym c.is-2.ensures.value ∙ c.if-is-2.true))
 
-pub returns-then-has_kind-2 : goal.returns-then-has_kind-2
-returns-then-has_kind-2 c =
-    let a = c.args in
-    one-dealt a.rules.relabel a.rules.tol a.w.now c.pass.new.w a.u.now c.pass.new.u a.g a.n a.i a.t
-    (eqb-true _ _ (sym c.has_kind-2.ensures ∙ c.if-has_kind-2.true)) (c.pass.ensures a.t)
+pub returns-then-is-2 : goal.returns-then-is-2
+returns-then-is-2 c = one-deals _ _ _ _ _ _ c.pass.ensures (sym c.is-2.ensures.value ∙ c.if-is-2.true)
 
-pub returns-then-has_kind-3 : goal.returns-then-has_kind-3
-returns-then-has_kind-3 c =
-    let a = c.args in
-    three-dealt a.rules.relabel a.rules.tol a.w.now a.w.now a.u.now c.close.new.u a.g a.n a.i a.t
-    (eqb-true _ _ (sym c.has_kind-else-has_kind-2.ensures ∙ c.if-has_kind-3.true)) (c.close.ensures a.t)
+pub returns-then-is-3 : goal.returns-then-is-3
+returns-then-is-3 c = three-deals _ _ _ _ _ _ c.close.ensures (sym c.is-else-is-2.ensures.value ∙ c.if-is-3.true)
 
-pub returns-else-has_kind-3 : goal.returns-else-has_kind-3
-returns-else-has_kind-3 c =
-    let a = c.args in
-    rw c.put_kind.ensures
-    (gone-dealt a.rules.relabel a.rules.tol a.w.now a.u.now a.g a.n a.i a.t c.requires.space.0 c.requires.space.1 c.requires.space.2
-    (eqb-false _ _ (sym c.has_kind-2.ensures ∙ c.if-has_kind-2.false)) (eqb-false _ _ (sym c.has_kind.ensures ∙ c.if-has_kind.false)) (eqb-false _ _ (sym c.has_kind-else-has_kind-2.ensures ∙ c.if-has_kind-3.false)))
+pub returns-else-is-3 : goal.returns-else-is-3
+returns-else-is-3 c =
+    gone-deals _ _ _ _ _ _ c.put_kind.ensures.put c.is.ensures.whole c.requires.event.0 c.requires.event.1
+    (sym c.is-2.ensures.value ∙ c.if-is-2.false) (sym c.is.ensures.value ∙ c.if-is.false) (sym c.is-else-is-2.ensures.value ∙ c.if-is-3.false)

@@ -5,4 +5,4 @@ use Rattle.resolve.proofs.settle.empty.Goals as goal
 
 pub returns : goal.returns
 unfolding emptied_marks
-returns c = rw (c.put_mark.ensures, c.put_kind.ensures)
+returns c = rw (c.put_mark.ensures.put, c.put_kind.ensures.put, c.gates.ensures.count)

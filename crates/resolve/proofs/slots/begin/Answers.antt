@@ -8,14 +8,16 @@ use Rattle.resolve.proofs.slots.begin.Goals as goal
 pub loop-s-preserved : goal.loop-s-preserved
 unfolding emptied_marks
 loop-s-preserved c =
-    let a = c.args in
-    let l = c.loop-s in (
-      omega arith,
-      rw (c.put_mark-in-loop-s.ensures, c.put_mark.ensures, c.put_kind.ensures) (begin-more a.u.now l.u a.g l.s l.invariant.1 (omega (arith, l.invariant.1.size))),
-    )
+    let w = c.args.work.now in
+    let l = c.loop-s in
+    let only = l.invariant.0 in
+    let made = l.invariant.1 in
+    let whole = c.gates-gates.ensures.whole in
+    rw (c.put_mark-in-loop-s.ensures.put, c.put_mark.ensures.put, c.put_kind.ensures.put, c.gates-gates.ensures.count)
+    (record { floats = only.floats; gates = only.gates; slots = only.slots }, begin-more _ _ _ _ made (omega (arith, made.size, whole.marks)))
 
 pub returns : goal.returns
 returns c =
-    let a = c.args in
+    let w = c.args.work.now in
     let l = c.loop-s in
-    begin-end a.w.now a.u.now l.u a.g a.n l.s (omega arith) l.invariant.1
+    record { rest = l.invariant.0; begun = begin-end w.floats w.marks l.work.marks w.gates w.slots l.s (omega arith) l.invariant.1 }

@@ -1,8 +1,8 @@
 -- `resolve::slots::begin` meets its contract: the first s slots are as before the first event.
 -- Assumes nothing.
-use Prim.Native.Nat.{◌≤◌}
+use Rattle.work.specs.Lent.{MarksOnly}
 use Rattle.resolve.proofs.Ends.{Beginning}
 use Rattle.resolve.proofs.slots.begin.Given as goal
 
 abbrev pub invariant-loop-s : goal.invariant-loop-s
-invariant-loop-s l = (l.s ≤ l.n) × Beginning l.initial.u l.u l.g l.s
+invariant-loop-s l = MarksOnly l.fn.work l.work × Beginning l.fn.work.marks l.work.marks l.fn.work.gates l.s
