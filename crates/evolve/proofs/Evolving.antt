@@ -13,7 +13,7 @@ use Rattle.detect.specs.Operation.{Operation, places_of, all_places, written}
 use Rattle.detect.proofs.Placing.{length-places}
 use Rattle.local.specs.Bounds.{state_places}
 use Rattle.local.specs.State.{State, stored, vacuum}
-use Rattle.local.proofs.Stored.{stored_is, is-stored, is-then}
+use Rattle.local.proofs.Stored.{stored_is}
 use Rattle.state.specs.Bounds.{dim_of}
 use Rattle.state.specs.Operation.{decode_of, Fits}
 use Rattle.state.specs.Calls.{decoded_state}
@@ -43,18 +43,7 @@ unfolding decoded_state decoded_effect
 decoded-more n (Some o) t s₀ s room fits e = applied-more n o t s₀ s room (fits o refl) e
 decoded-more n None t s₀ s room fits e = e
 
--- a slice that holds a state is made no different by storing it there again
-pub stored-again : (dim : ℕ) (t : State) (s₀ s : List Float) → state_places dim ≤ length s₀ → s ≡ stored dim t s₀ → s ≡ stored dim t s
-stored-again dim t s₀ s room e =
-    let w = stored_is dim s₀ t s room e in
-    is-stored dim s t s (omega (arith, w.long)) (record { long = refl; entry = w.entry; sign = w.sign; after = λ i h. refl })
-
--- the last state stored is what stands there
-pub stored-then : (dim : ℕ) (t u : State) (s₀ s s' : List Float) → state_places dim ≤ length s₀ → s ≡ stored dim t s₀ → s' ≡ stored dim u s → s' ≡ stored dim u s₀
-stored-then dim t u s₀ s s' room e g =
-    let w = stored_is dim s₀ t s room e in
-    is-stored dim s₀ u s' room (is-then dim s₀ s s' t u w (stored_is dim s u s' (omega (arith, w.long)) g))
-
+-- storing a state leaves the length
 pub stored-long : (dim : ℕ) (t : State) (s₀ s : List Float) → state_places dim ≤ length s₀ → s ≡ stored dim t s₀ → length s ≡ length s₀
 stored-long dim t s₀ s room e = (stored_is dim s₀ t s room e).long
 

@@ -10,7 +10,7 @@ use lib.ListN.{length}
 use lib.Ieee.{Float}
 use borrow.Author.Tests.{eqb-true, lt-ltb, le-ltb}
 use Rattle.laws.specs.Bounds.{max_qubits}
-use Rattle.laws.proofs.Cases.{lt-or-le}
+use Rattle.std.proofs.lemmas.Bool.{cases_lt, true_from_ne_false, cond_both}
 use Rattle.laws.proofs.Lists.{all_append}
 use Rattle.gate.specs.declared.matrix.Mat4.{Mat4}
 use Rattle.tape.specs.Good.{GoodGate}
@@ -41,9 +41,14 @@ fits-decodes n (one k q) m f = decode-one n k q f m
 fits-decodes n (two k q) m f = decode-two n k q f m
 fits-decodes n (interaction k block second w) m f = decode-interaction n k block second w
 
-module _ (n : ℕ) where
-  -- ---- what an item becomes
+-- ---- what an item becomes
 
+-- a matchgate that is not bad is on neighbours
+pub match-beside : (i j : ℕ) (r : Float) (v : Mat4) → (match_share i j r v).bad ≡ 0 → beside_of i j ≡ true
+unfolding match_share
+match-beside i j r v e = true_from_ne_false _ (λ f. let z = rw f at e in omega (arith, z))
+
+module _ (n : ℕ) where
   rotated-fits : (k : ℕ) (x : Option Map2) → k < n → AllFit n (rotated k x)
   unfolding Fits
   rotated-fits k (Some q) h = (h, tt)
@@ -57,7 +62,7 @@ module _ (n : ℕ) where
 
   -- the lower of two neighbours has its successor below n
   lower-fits : (i j : ℕ) → i < n → j < n → beside_of i j ≡ true → lower_of i j + 1 < n
-  lower-fits i j h g e = by (lt-or-le i j)
+  lower-fits i j h g e = by (cases_lt i j)
     where
       d : abs_diff_of i j ≡ 1
       d = eqb-true (abs_diff_of i j) 1 e
@@ -65,15 +70,6 @@ module _ (n : ℕ) where
       by : (i < j) ⊎ (j ≤ i) → lower_of i j + 1 < n
       by (inl l) = let t = lt-ltb i j l in let d' : j - i ≡ 1 = rw t at d in rw t (omega arith)
       by (inr l) = let t = le-ltb i j l in let d' : i - j ≡ 1 = rw t at d in rw t (omega arith)
-
-  -- a matchgate that is not bad is on neighbours
-  match-beside : (i j : ℕ) (r : Float) (v : Mat4) → (match_share i j r v).bad ≡ 0 → beside_of i j ≡ true
-  unfolding match_share
-  match-beside i j r v e = by (beside_of i j) e
-    where
-      by : (t : Bool) → (cond t (adjacent_share r (majorana_map2_of (oriented_of i j v))) apart).bad ≡ 0 → t ≡ true
-      by true e = refl
-      by false e = absurd (omega (arith, e))
 
   two-fit : (block : ℕ) (kind : ItemKind) (i j : ℕ) (r : Float) (v : Mat4) → i < n → j < n → (two_share kind i j r v).bad ≡ 0
       → AllFit n (two_operations block kind i j v)
@@ -109,9 +105,7 @@ module _ (h : Header) (gs : List Gate) (good : (x : Gate) → Memᴰ x gs → Go
 
   pub program-fits : AllFit h.n (program_of h gs)
   unfolding program_of tape_counts
-  program-fits = by (free_of (tape_counts h gs)) refl
-    where
-      by : (t : Bool) → free_of (tape_counts h gs) ≡ t → AllFit h.n (cond t (operations_of (mode_of_wire h gs) (items_of h gs).items) [])
-      by true e =
-          operations-fit h.n h.tolerance (mode_of_wire h gs) mode-there (items_of h gs).items (wires-items h gs good) (eqb-true (tape_counts h gs).bad 0 e)
-      by false e = tt
+  program-fits =
+      cond_both (free_of (tape_counts h gs)) _ _ (AllFit h.n)
+      (λ e. operations-fit h.n h.tolerance (mode_of_wire h gs) mode-there (items_of h gs).items (wires-items h gs good) (eqb-true (tape_counts h gs).bad 0 e))
+      (λ _. tt)

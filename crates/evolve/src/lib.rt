@@ -21,10 +21,8 @@ pub fn evolve(n: usize, count: usize, ops: &[f64], state: &mut [f64])
     ensures { state.new ≡ stored (dim_of n) (evolved_in n count ops.now spec.vacuum) state.old }
 {
     vacuum(n, state);
-    for i in 0..count {
-        // by its place, and not by chunks, since the slice may hold more than `count` operations
-        let a = OP_PLACES * i;
+    for op in ops[..OP_PLACES * count].chunks_exact(OP_PLACES) {
         // a program has no operation that question 17 turns down, and one that it does would change nothing
-        let _answer = apply_places(n, state, ops[a], ops[a + 1], &ops[a..a + OP_PLACES]);
+        let _answer = apply_places(n, state, op[0], op[1], op);
     }
 }

@@ -5,3 +5,5 @@ pub mod Steps
 mod Structs
 mod DetLaws
 mod Examples
+pub mod SameSigned
+mod Four

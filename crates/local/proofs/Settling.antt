@@ -5,7 +5,7 @@ use mathlib.Core.Logic.{◌⊎◌, inl, inr, ◌≢◌}
 use mathlib.Core.Bool.{Bool, true, false, cond, ◌&&◌, ◌||◌, false≢true, true≢false}
 use mathlib.Core.List.{List}
 use Prim.Native.Nat.{ℕ, ◌+◌, ◌*◌, ◌-◌, ◌≤◌, ◌<◌}
-use native.Mathlib.Nat.{le_refl, le_of_eq, add-zero, add_assoc}
+use native.Mathlib.Nat.{le_refl, le_of_eq, add_assoc}
 use native.Mathlib.Omega.{arith}
 use lib.Dec.{eqb}
 use lib.ListN.{length, get_or, set, length-set}
@@ -17,10 +17,10 @@ use Rattle.laws.specs.Tables.{update}
 use Rattle.laws.specs.Matrix.{Mat, at, matrix, Is}
 use Rattle.laws.specs.Maps.{inside}
 use Rattle.laws.specs.Loops.{up_to, by_row, by_col}
-use Rattle.laws.proofs.Cases.{lt-or-le, eq-or-ne}
+use Rattle.std.proofs.lemmas.Bool.{cases_lt, cases_eq}
 use Rattle.laws.proofs.Tables.{update_here, update-away}
 use Rattle.laws.proofs.Maps.{inside-yes, inside-below, inside-above}
-use Rattle.laws.proofs.Matrix.{matrix-is, is-matrix, at_set_same, at_set_other, after-set, at-set-after}
+use Rattle.laws.proofs.Matrix.{matrix-is, at_set_same, at_set_other, after-set, at-set-after}
 use Rattle.laws.proofs.Loops.{more, up_left}
 use Rattle.laws.proofs.Columns.{entry_more}
 use Rattle.local.specs.Bounds.{state_places}
@@ -38,7 +38,7 @@ use Rattle.local.proofs.Stored.{same, alike_is, stored_is, is-stored}
 
 module _ (s j : ℕ) where
   inside-next : (x : ℕ) → x ≢ s + j → inside (band s (j + 1)) x ≡ inside (band s j) x
-  inside-next x ne = by (lt-or-le x s) (lt-or-le x (s + j))
+  inside-next x ne = by (cases_lt x s) (cases_lt x (s + j))
     where
       by : (x < s) ⊎ (s ≤ x) → (x < s + j) ⊎ (s + j ≤ x) → inside (band s (j + 1)) x ≡ inside (band s j) x
       by (inl a) _ = inside-below (band s (j + 1)) x a ∙ sym (inside-below (band s j) x a)
@@ -47,7 +47,7 @@ module _ (s j : ℕ) where
 
   -- the next index is marked where its sign is below zero
   next-mark : (d : ℕ → Float) (x : ℕ) → unsettled (band s (j + 1)) d x ≡ update (s + j) (lt (d (s + j)) +0) (unsettled (band s j) d) x
-  next-mark d x = by (eq-or-ne x (s + j))
+  next-mark d x = by (cases_eq x (s + j))
     where
       by : (x ≡ s + j) ⊎ (x ≢ s + j) → unsettled (band s (j + 1)) d x ≡ update (s + j) (lt (d (s + j)) +0) (unsettled (band s j) d) x
       by (inl e) =
@@ -64,7 +64,7 @@ module _ (s j : ℕ) where
   module _ (d : ℕ → Float) where
     -- the marks after its turn: where its sign is not below zero they are the same, and else it is marked too
     mark-same : lt (d (s + j)) +0 ≡ false → (x : ℕ) → unsettled (band s j) d x ≡ unsettled (band s (j + 1)) d x
-    mark-same f x = by (eq-or-ne x (s + j)) ∙ ap (λ u. update (s + j) u (unsettled (band s j) d) x) (sym f) ∙ sym (next-mark d x)
+    mark-same f x = by (cases_eq x (s + j)) ∙ ap (λ u. update (s + j) u (unsettled (band s j) d) x) (sym f) ∙ sym (next-mark d x)
       where
         b : ℕ → Bool
         b = unsettled (band s j) d
@@ -83,7 +83,7 @@ module _ (s j : ℕ) where
 
 -- none is marked where there are no indices, or where no sign is below zero
 none-marked : (s k : ℕ) (d : ℕ → Float) → ((i : ℕ) → i < k → lt (d (s + i)) +0 ≡ false) → (x : ℕ) → unsettled (band s k) d x ≡ false
-none-marked s k d none x = by (lt-or-le x s) (lt-or-le x (s + k))
+none-marked s k d none x = by (cases_lt x s) (cases_lt x (s + k))
   where
     by : (x < s) ⊎ (s ≤ x) → (x < s + k) ⊎ (s + k ≤ x) → unsettled (band s k) d x ≡ false
     by (inl a) _ = ap (λ b. b && lt (d x) +0) (inside-below (band s k) x a)
@@ -94,7 +94,7 @@ none-marked s k d none x = by (lt-or-le x s) (lt-or-le x (s + k))
 
 -- one sign more that is not below zero
 pub none_more : (f : ℕ → Bool) (j : ℕ) → ((i : ℕ) → i < j → f i ≡ false) → f j ≡ false → (i : ℕ) → i < j + 1 → f i ≡ false
-none_more f j none e i h = by (eq-or-ne i j) (lt-or-le i j)
+none_more f j none e i h = by (cases_eq i j) (cases_lt i j)
   where
     by : (i ≡ j) ⊎ (i ≢ j) → (i < j) ⊎ (j ≤ i) → f i ≡ false
     by (inl q) _ = ap f q ∙ e
@@ -203,8 +203,8 @@ module _ (dim s j : ℕ) (s₀ v v' : List Float) (t : State) (h : s + j < dim) 
   turned f = record {
     long = ap length (did true f) ∙ length-set u (dim * dim + i) +1 ∙ c.long ∙ w.long;
     entry = λ r k g l. ap (λ z. at dim z r k) (did true f) ∙ at-set-after dim (dim * dim + i) r k u +1 (omega arith) g l ∙ c.each r k g l
-        ∙ entry_of r k g l (eq-or-ne r i);
-    sign = λ x g. ap (λ z. get_or z (dim * dim + x) nan) (did true f) ∙ sign_of x g (eq-or-ne x i);
+        ∙ entry_of r k g l (cases_eq r i);
+    sign = λ x g. ap (λ z. get_or z (dim * dim + x) nan) (did true f) ∙ sign_of x g (cases_eq x i);
     after = λ x g.
         ap (λ z. get_or z x nan) (did true f) ∙ get_or-set_other u (dim * dim + i) x +1 nan (λ q. omega arith) ∙ c.after x (omega arith) ∙ w.after x g;
   }
@@ -282,7 +282,7 @@ module _ (dim i s j : ℕ) (m₀ m : List Float) (hi : i < dim) (h : s + j < dim
   unfolding d
   part-more m' f e = record {
     long = rw e (length-set m (i * dim + (s + j)) (neg (at dim m i (s + j))) ∙ w.long);
-    each = λ r c a b. one r c a b (eq-or-ne r i) (eq-or-ne c (s + j));
+    each = λ r c a b. one r c a b (cases_eq r i) (cases_eq c (s + j));
     after = λ x y. rw e (after-set dim i (s + j) x m _ hi h y ∙ w.after x y);
   }
     where
@@ -315,25 +315,6 @@ module _ (dim i s j : ℕ) (m₀ m : List Float) (hi : i < dim) (h : s + j < dim
       by : (u : Bool) → lt (get_or m (dim * dim + (s + j)) nan) +0 ≡ u → PartTo dim i s m₀ (j + 1) m'
       by true f = part-more m' f (moved true f)
       by false f = rw (moved false f) (part-kept f)
-
--- a part of four, straight on
-module _ (dim i s : ℕ) (m₀ m₁ : List Float) (hi : i < dim) (fit : s + 4 ≤ dim) (room : state_places dim ≤ length m₀)
-    (e₁ : m₁ ≡ settled_entry dim i s m₀) where
-  pub part-one : PartTo dim i s m₀ 1 m₁
-  part-one =
-      part-next dim i s 0 m₀ m₀ hi (omega arith) room (part_none dim i s m₀) m₁ (e₁ ∙ ap (λ x. settled_entry dim i x m₀) (sym (add-zero s)))
-
-  pub part-two : (m₂ : List Float) → m₂ ≡ settled_entry dim i (s + 1) m₁ → PartTo dim i s m₀ 2 m₂
-  part-two = part-next dim i s 1 m₀ m₁ hi (omega arith) room part-one
-
-  pub part-three : (m₂ m₃ : List Float) → m₂ ≡ settled_entry dim i (s + 1) m₁ → m₃ ≡ settled_entry dim i (s + 2) m₂ → PartTo dim i s m₀ 3 m₃
-  part-three m₂ m₃ e₂ = part-next dim i s 2 m₀ m₂ hi (omega arith) room (part-two m₂ e₂) m₃
-
-  pub part-four : (m₂ m₃ m₄ : List Float) → m₂ ≡ settled_entry dim i (s + 1) m₁ → m₃ ≡ settled_entry dim i (s + 2) m₂
-      → m₄ ≡ settled_entry dim i (s + 3) m₃
-      → m₄ ≡ matrix dim (part_settled (band s 4) i (state_at dim m₀)) m₀
-  part-four m₂ m₃ m₄ e₂ e₃ e₄ =
-      is-matrix _ _ _ _ (part-next dim i s 3 m₀ m₃ hi (omega arith) room (part-three m₂ m₃ e₂ e₃) m₄ e₄)
 
 -- the signs are still those of the start
 pub sign_kept : (dim i s j x : ℕ) (b : Bool) (m₀ m : List Float) → PartTo dim i s m₀ j m → b ≡ lt (get_or m₀ (dim * dim + x) nan) +0

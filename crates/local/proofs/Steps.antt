@@ -4,14 +4,12 @@ use mathlib.Core.Path.{◌≡◌, refl, sym}
 use mathlib.Core.Bool.{Bool, true, false, cond, ◌&&◌}
 use mathlib.Core.List.{List, map}
 use Prim.Native.Nat.{ℕ, ◌+◌, ◌*◌, ◌-◌, ◌≤◌, ◌<◌}
-use native.Mathlib.Omega.{arith}
 use lib.ListN.{length}
 use lib.Ieee.{Float, neg, lt}
 use Rattle.laws.specs.Zeros.{+0, +1, sg}
 use Rattle.laws.specs.Slices.{on_part}
 use Rattle.laws.specs.Matrix.{at, matrix}
 use Rattle.laws.specs.Maps.{Local, inside, rows, cols}
-use Rattle.laws.proofs.Matrix.{matrix-then}
 use Rattle.laws.proofs.Maps.{rows-within, cols-within}
 use Rattle.local.specs.Bounds.{state_places}
 use Rattle.local.specs.State.{State, state_at, stored, Stored}
@@ -20,13 +18,6 @@ use Rattle.local.specs.Parts.{settled_state}
 use Rattle.local.proofs.Stored.{Alike, is-stored, stored_is, alike_is, matrix-step, turn_step}
 
 -- ---- the phases: settled, rows and columns, and the turn or none
-
--- the rows step of a state, and the columns step of what it left
-pub both-steps : (o : Local) (dim : ℕ) (t : State) (s₀ s₁ s₂ s₃ : List Float) → state_places dim ≤ length s₀ → o.start + o.width ≤ dim
-    → s₁ ≡ stored dim t s₀ → s₂ ≡ matrix dim (rows o (at dim s₁)) s₁ → s₃ ≡ matrix dim (cols o (at dim s₂)) s₂
-    → s₃ ≡ matrix dim (cols o (rows o (at dim s₁))) s₁
-both-steps o dim t s₀ s₁ s₂ s₃ room band e₁ e₂ e₃ =
-    matrix-then dim s₁ s₂ s₃ (rows o (at dim s₁)) (cols o) (omega (arith, room, (stored_is dim s₀ t s₁ room e₁).long)) (cols-within o dim band) e₂ e₃
 
 module _ (is_odd : Local → Bool) (o : Local) (dim : ℕ) (s₀ s₁ s₃ : List Float) (room : state_places dim ≤ length s₀)
     (band : o.start + o.width ≤ dim)

@@ -14,7 +14,7 @@ use lib.Ieee.{Float, nan, neg}
 use borrow.Author.Tests.{lt-ltb, le-ltb, le-leb, lt-leb}
 use Rattle.laws.specs.Slices.{on_part}
 use Rattle.laws.specs.Matrix.{Mat, at, matrix}
-use Rattle.laws.proofs.Cases.{lt-or-le}
+use Rattle.std.proofs.lemmas.Bool.{cases_lt}
 use Rattle.laws.proofs.Slices.{part_at, length-put, put-before, put-inside, put-after, mapped-all, mapped-done}
 use Rattle.laws.proofs.Views.{length-list_of, get_or-list_of}
 use Rattle.laws.proofs.Matrix.{place_in, Within, is-matrix, matrix-is}
@@ -47,7 +47,7 @@ module _ (dim : ℕ) (d : ℕ → Float) (s : List Float) where
 
   signed-after : (i : ℕ) → state_places dim ≤ i → get_or (with_signs dim d s) i nan ≡ get_or s i nan
   unfolding with_signs
-  signed-after i h = by (lt-or-le i (length s))
+  signed-after i h = by (cases_lt i (length s))
     where
       a : dim * dim ≤ i
       a = omega arith
@@ -73,7 +73,7 @@ pub is-stored : (dim : ℕ) (s₀ : List Float) (t : State) (s : List Float) →
 unfolding stored
 is-stored dim s₀ t s room w =
     is-matrix dim (with_signs dim t.d s₀) t.m s
-    (record { long = w.long ∙ sym (length-signed dim t.d s₀); each = w.entry; after = λ i h. one i h (lt-or-le i (state_places dim)) })
+    (record { long = w.long ∙ sym (length-signed dim t.d s₀); each = w.entry; after = λ i h. one i h (cases_lt i (state_places dim)) })
   where
     one : (i : ℕ) → dim * dim ≤ i → (i < state_places dim) ⊎ (state_places dim ≤ i) → get_or s i nan ≡ get_or (with_signs dim t.d s₀) i nan
     one i h (inl g) =
@@ -184,6 +184,6 @@ module _ (dim a : ℕ) (s₀ s : List Float) (t : State) (room : state_places di
     long = rw e (length-put p k s (map neg part) nan fit len ∙ w.long);
     entry = λ r c x y.
         rw e (put-before p k s (map neg part) nan fit len (r * dim + c) (omega (arith, place_in dim r c x y)) ∙ w.entry r c x y);
-    sign = λ i g. rw e (turned-sign i g (lt-or-le i a));
+    sign = λ i g. rw e (turned-sign i g (cases_lt i a));
     after = λ i g. rw e (put-after p k s (map neg part) nan fit len i (omega arith) ∙ w.after i g);
   }

@@ -5,3 +5,4 @@ pub mod Det
 pub mod Apply
 -- of its inner functions
 pub mod Parts
+pub mod Signed

@@ -1,6 +1,6 @@
 -- What the inner functions ask and give: rows of three and two numbers in the determinant, one index settled, a column read as a struct.
 -- Definitions only. Only inner functions rest on this.
-use Rattle.std.specs.Prelude.{◌≡◌, Bool, cond, ◌&&◌, List, [], ◌∷◌, ℕ, ◌+◌, ◌*◌, ◌≤◌, ◌<◌, eqb, get_or, length, set, Float}
+use Rattle.std.specs.Prelude.{◌≡◌, Bool, cond, ◌&&◌, List, [], ◌∷◌, ℕ, ◌+◌, ◌*◌, eqb, get_or, set, Float}
 use Rattle.std.specs.List.{list_any}
 use Rattle.std.specs.Float.{nan}
 use Rattle.std.specs.Float.Ieee.{neg, lt}
@@ -12,7 +12,6 @@ use Rattle.real.specs.declared.maps.Real2.{Real2}
 use Rattle.real.specs.declared.maps.Map2.{Map2}
 use Rattle.real.specs.declared.maps.Real4.{Real4}
 use Rattle.real.specs.declared.maps.Map4.{Map4}
-use Rattle.local.specs.Bounds.{state_places}
 use Rattle.local.specs.State.{State}
 use Rattle.local.specs.Apply.{unsettled, settled, calm}
 use Rattle.local.specs.Det.{Line}
@@ -20,16 +19,6 @@ use Rattle.local.specs.declared.det.Real3.{Real3}
 use Rattle.local.specs.declared.signs.Below.{Below}
 
 -- ---- what they ask
-
--- the slice holds a state with dim rows, of which i is one
-pub record HasSign (s : List Float) (dim i : ℕ) : Type 0 where
-  pub room : state_places dim ≤ length s
-  pub row : i < dim
-
--- the slice holds a state with dim rows, k of them from start on
-pub record HasBand (s : List Float) (dim start k : ℕ) : Type 0 where
-  pub room : state_places dim ≤ length s
-  pub band : start + k ≤ dim
 
 -- which of the four signs from start on are below zero
 pub record Below4 (s : List Float) (dim start : ℕ) (b : Below) : Type 0 where

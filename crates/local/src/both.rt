@@ -2,6 +2,8 @@
 // itself: where only such parts are read and stored, the processor asks for more lines at once than fit into the few sets
 // on which rows of 2,048 bytes fall, and n = 128 takes twice as long. Its functions have a twin for four indices, in place of a const for the size:
 // rows are structs of floats by value, and a map of two modes goes row by row and column by column, in two loops.
+// The matrix is a slice with its dimension here: as one value (`real::Square`) both columns are no longer taken at once, and a map of one mode takes 34 %
+// more instructions on 60 qubits, 37 % on 128.
 
 ghost use Rattle.std.specs.Prelude.{◌≡◌, ◌+◌, ◌*◌, ◌<◌, set};
 ghost use Rattle.laws.specs.Matrix.{at, matrix, Holds};

@@ -1,12 +1,14 @@
-// The columns step of 001's `apply_local`: each row's middle part is lent on and put under the map there.
+// The columns step of 001's `apply_local`: each row's middle part is lent on and put under the map there; and both steps of a map of two modes.
 // Two and four wide are two functions each, in place of a const for the width: maps and rows are structs of floats by value.
 
-ghost use Rattle.std.specs.Prelude.{◌≡◌, ◌<◌, length};
+ghost use Rattle.std.specs.Prelude.{◌≡◌, ◌+◌, ◌≤◌, ◌<◌, length};
 ghost use Rattle.laws.specs.Matrix.{at, matrix, Holds};
-ghost use Rattle.laws.specs.Maps.{dot, rotated, cols, row_turn};
+ghost use Rattle.laws.specs.Maps.{dot, rotated, rows, cols, row_turn};
 ghost use Rattle.real.specs.Maps.{row2, row4, entry2, entry4, local4};
+ghost use Rattle.real.specs.Squares.{cells, Becomes};
 
-use real::{Map2, Map4, Real2, Real4};
+use super::rows::rows4;
+use real::{Map2, Map4, Real2, Real4, Square};
 
 // A row of a map times a vector.
 pub fn dot2(q: Real2, v: Real2) -> f64
@@ -66,21 +68,32 @@ fn rotate4(row: &mut [f64], q: Map4)
 }
 
 // In row r the map's columns, from s on, are put under the map.
-fn map_row4(m: &mut [f64], dim: usize, s: usize, r: usize, q: Map4)
-    requires holds { Holds m.old dim s 4 }
-    requires r_lt_dim { r < dim }
-    ensures { m.new ≡ row_turn (local4 s q) dim r m.old }
+fn map_row4(m: &mut Square, s: usize, r: usize, q: Map4)
+    requires columns { s + 4 ≤ m.old.dim }
+    requires row { r < m.old.dim }
+    ensures { Becomes m.old m.new (row_turn (local4 s q) m.old.dim r m.old.entries.now) }
 {
-    let a = r * dim + s;
-    rotate4(&mut m[a..a + 4], q);
+    let a = r * m.dim + s;
+    rotate4(&mut m.entries[a..a + 4], q);
 }
 
 // In each row the map's columns, from s on, are put under the map.
-pub fn columns4(m: &mut [f64], dim: usize, s: usize, q: Map4)
-    requires { Holds m.old dim s 4 }
-    ensures { m.new ≡ matrix dim (cols (local4 s q) (at dim m.old)) m.old }
+fn columns4(m: &mut Square, s: usize, q: Map4)
+    requires { s + 4 ≤ m.old.dim }
+    ensures { Becomes m.old m.new (matrix m.old.dim (cols (local4 s q) (cells m.old)) m.old.entries.now) }
 {
-    for r in 0..dim {
-        map_row4(m, dim, s, r, q);
+    for r in 0..m.dim {
+        map_row4(m, s, r, q);
     }
+}
+
+// In each column the map's rows, from s on, are put under the map, and then in each row its columns. It takes the slice: of a field that a `Square` was made
+// from nothing is known afterwards, so its caller has no proof of what the state became.
+pub fn both4(a: &mut [f64], dim: usize, s: usize, q: Map4)
+    requires { Holds a.old dim s 4 }
+    ensures { a.new ≡ matrix dim (cols (local4 s q) (rows (local4 s q) (at dim a.old))) a.old }
+{
+    let mut m = Square { entries: a, dim };
+    rows4(&mut m, s, q);
+    columns4(&mut m, s, q);
 }

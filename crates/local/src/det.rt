@@ -16,7 +16,7 @@ pub struct Real3 {
     pub x2: f64,
 }
 
-// x is not below y by absolute value, in the total order that has a NaN above all numbers.
+// x is not below y by absolute value, in the total order that has a NaN above all numbers. The library's `total_cmp` asks that neither is a NaN.
 fn not_below(x: f64, y: f64) -> bool
     ensures { result ≡ not_below x y }
 {

@@ -5,11 +5,13 @@
 #![tactic(auto)]
 
 mod both; // both steps of a map of one mode
-mod columns; // the columns step of a map of two modes
+mod columns; // the columns step of a map, and both steps of one of two modes
 mod det; // the determinant of a map
 mod local; // a map applied to the state
 mod rows; // the rows step of a map of two modes
+mod signed; // the state in lent places as one value
 mod signs; // the signs d settled and turned
 
 // for `state`, which meets what they require
 pub use local::{apply_local2, apply_local4};
+pub use signed::Signed;

@@ -1,91 +1,79 @@
 // The signs d, which stand after the matrix: settled on a map's own rows, turned for all later modes. Four wide has
 // functions of its own, in place of a const for the width: they read the four signs before the matrix, as is said there.
 
-ghost use Rattle.std.specs.Prelude.{◌≡◌, map, ◌+◌, ◌*◌, ◌-◌, ◌<◌, set, get_or};
-ghost use Rattle.std.specs.Float.{nan};
-ghost use Rattle.std.specs.Float.Ieee.{neg, lt};
-ghost use Rattle.laws.specs.Zeros.{+0};
+ghost use Rattle.std.specs.Prelude.{◌≡◌, map, ◌+◌, ◌*◌, ◌-◌, ◌≤◌, ◌<◌};
+ghost use Rattle.std.specs.Float.Ieee.{neg};
 ghost use Rattle.laws.specs.Slices.{on_part};
-ghost use Rattle.laws.specs.Matrix.{at, matrix, Inside};
-ghost use Rattle.local.specs.State.{state_at, stored};
-ghost use Rattle.local.specs.Parts.{any_below, HasSign, HasBand, Below4, band, settled_state};
+ghost use Rattle.laws.specs.Matrix.{matrix};
+ghost use Rattle.local.specs.Parts.{any_below, Below4, band, settled_state};
 ghost use Rattle.local.specs.Parts.{row_negated, settled_row, rows_settled, settled_entry, part_settled, columns_settled};
+ghost use Rattle.local.specs.Signed.{state_of, Becomes, Holds};
 
-use real::{entry, put};
-
-fn negate(m: &mut [f64], dim: usize, r: usize, c: usize)
-    requires { Inside m.old dim r c }
-    ensures { m.new ≡ set m.old (r * dim + c) (neg (at dim m.old r c)) }
-{
-    let x = entry(m, dim, r, c);
-    put(m, dim, r, c, -x);
-}
+use super::signed::Signed;
 
 // Row i is negated.
-fn negate_row(m: &mut [f64], dim: usize, i: usize)
-    requires { Inside m.old dim i i }
-    ensures { m.new ≡ matrix dim (row_negated i (at dim m.old)) m.old }
+fn negate_row(t: &mut Signed, i: usize)
+    requires { i < t.old.dim }
+    ensures { Becomes t.old t.new (matrix t.old.dim (row_negated i (state_of t.old).m) t.old.entries.now) }
 {
-    for c in 0..dim {
-        negate(m, dim, i, c);
+    for c in 0..t.dim {
+        t.negate(i, c);
     }
 }
 
 // The sign of i is folded into row i, and is 1.0.
-fn settle_row(state: &mut [f64], dim: usize, i: usize)
-    requires { HasSign state.old dim i }
-    ensures { state.new ≡ settled_row dim i state.old }
+fn settle_row(t: &mut Signed, i: usize)
+    requires { i < t.old.dim }
+    ensures { Becomes t.old t.new (settled_row t.old.dim i t.old.entries.now) }
 {
-    let at = dim * dim + i;
-    if state[at] < 0.0 {
-        negate_row(state, dim, i);
-        state[at] = 1.0;
+    if t.sign(i) < 0.0 {
+        negate_row(t, i);
+        t.put_sign(i, 1.0);
     }
 }
 
-// The signs of the k indices from s on are folded into their rows.
-fn settle_rows(state: &mut [f64], dim: usize, s: usize, k: usize)
-    requires { HasBand state.old dim s k }
-    ensures { state.new ≡ stored dim (rows_settled (band s k) (state_at dim state.old)) state.old }
+// The signs of the k indices from s on are folded into their rows. A first index and a number, not a range: the definition's `band` has them so.
+fn settle_rows(t: &mut Signed, s: usize, k: usize)
+    requires { s + k ≤ t.old.dim }
+    ensures { Holds t.old t.new (rows_settled (band s k) (state_of t.old)) }
 {
     for j in 0..k {
-        settle_row(state, dim, s + j);
+        settle_row(t, s + j);
     }
 }
 
-// The sign of column i, which `below` says to be below zero or not, is folded into row r.
-fn settle_where(state: &mut [f64], dim: usize, r: usize, i: usize, below: bool)
-    requires has_sign { HasSign state.old dim i }
-    requires r_lt_dim { r < dim }
-    requires below_value { below ≡ lt (get_or state.old (dim * dim + i) nan) +0 }
-    ensures { state.new ≡ settled_entry dim r i state.old }
+// The sign of column i is folded into row r.
+fn settle_entry(t: &mut Signed, r: usize, i: usize)
+    requires row { r < t.old.dim }
+    requires column { i < t.old.dim }
+    ensures { Becomes t.old t.new (settled_entry t.old.dim r i t.old.entries.now) }
 {
-    if below {
-        negate(state, dim, r, i);
+    if t.sign(i) < 0.0 {
+        t.negate(r, i);
     }
 }
 
 // In row r the signs of the k indices from s on are folded into their columns.
-fn settle_part(state: &mut [f64], dim: usize, r: usize, s: usize, k: usize)
-    requires has_band { HasBand state.old dim s k }
-    requires r_lt_dim { r < dim }
-    ensures { state.new ≡ matrix dim (part_settled (band s k) r (state_at dim state.old)) state.old }
+fn settle_part(t: &mut Signed, r: usize, s: usize, k: usize)
+    requires columns { s + k ≤ t.old.dim }
+    requires row { r < t.old.dim }
+    ensures { Becomes t.old t.new
+        (matrix t.old.dim (part_settled (band s k) r (state_of t.old)) t.old.entries.now) }
 {
     for j in 0..k {
-        let i = s + j;
-        let below = state[dim * dim + i] < 0.0;
-        settle_where(state, dim, r, i, below);
+        settle_entry(t, r, s + j);
     }
 }
 
 // The signs of the k indices from s on are folded into their columns, row by row: all of a row's
 // part at once, since a column's entries lie far apart.
-fn settle_columns(state: &mut [f64], dim: usize, s: usize, k: usize)
-    requires { HasBand state.old dim s k }
-    ensures { state.new ≡ matrix dim (columns_settled (band s k) (state_at dim state.old)) state.old }
+fn settle_columns(t: &mut Signed, s: usize, k: usize)
+    requires { s + k ≤ t.old.dim }
+    ensures { Becomes t.old t.new
+        (matrix t.old.dim (columns_settled (band s k) (state_of t.old)) t.old.entries.now) }
 {
-    for r in 0..dim {
-        settle_part(state, dim, r, s, k);
+    for r in 0..t.dim {
+        settle_part(t, r, s, k);
     }
 }
 
@@ -97,14 +85,13 @@ fn any_below(signs: &[f64]) -> bool
 }
 
 // The signs of the k indices from s on are folded into m. Where none is below zero, m is not read.
-pub fn settle(state: &mut [f64], dim: usize, s: usize, k: usize)
-    requires { HasBand state.old dim s k }
-    ensures { state.new ≡ stored dim (settled_state (band s k) (state_at dim state.old)) state.old }
+pub fn settle(t: &mut Signed, s: usize, k: usize)
+    requires { s + k ≤ t.old.dim }
+    ensures { Holds t.old t.new (settled_state (band s k) (state_of t.old)) }
 {
-    let at = dim * dim + s;
-    if any_below(&state[at..at + k]) {
-        settle_columns(state, dim, s, k);
-        settle_rows(state, dim, s, k);
+    if any_below(t.signs(s, k)) {
+        settle_columns(t, s, k);
+        settle_rows(t, s, k);
     }
 }
 
@@ -119,61 +106,71 @@ struct Below {
 
 // The same four wide, with the signs read before: for all that the compiler knows a store to m may be
 // one to d, so that it would read them again in every row.
-fn settle_part4(state: &mut [f64], dim: usize, r: usize, s: usize, below: Below)
-    requires has_band { HasBand state.old dim s 4 }
-    requires r_lt_dim { r < dim }
-    requires below4 { Below4 state.old dim s below }
-    ensures { state.new ≡ matrix dim (part_settled (band s 4) r (state_at dim state.old)) state.old }
+fn settle_part4(t: &mut Signed, r: usize, s: usize, below: Below)
+    requires columns { s + 4 ≤ t.old.dim }
+    requires row { r < t.old.dim }
+    requires below4 { Below4 t.old.entries.now t.old.dim s below }
+    ensures { Becomes t.old t.new
+        (matrix t.old.dim (part_settled (band s 4) r (state_of t.old)) t.old.entries.now) }
 {
-    settle_where(state, dim, r, s, below.x0);
-    settle_where(state, dim, r, s + 1, below.x1);
-    settle_where(state, dim, r, s + 2, below.x2);
-    settle_where(state, dim, r, s + 3, below.x3);
+    if below.x0 {
+        t.negate(r, s);
+    }
+    if below.x1 {
+        t.negate(r, s + 1);
+    }
+    if below.x2 {
+        t.negate(r, s + 2);
+    }
+    if below.x3 {
+        t.negate(r, s + 3);
+    }
 }
 
 // In every row.
-fn settle_columns4(state: &mut [f64], dim: usize, s: usize, below: Below)
-    requires has_band { HasBand state.old dim s 4 }
-    requires below4 { Below4 state.old dim s below }
-    ensures { state.new ≡ matrix dim (columns_settled (band s 4) (state_at dim state.old)) state.old }
+fn settle_columns4(t: &mut Signed, s: usize, below: Below)
+    requires columns { s + 4 ≤ t.old.dim }
+    requires below4 { Below4 t.old.entries.now t.old.dim s below }
+    ensures { Becomes t.old t.new
+        (matrix t.old.dim (columns_settled (band s 4) (state_of t.old)) t.old.entries.now) }
 {
-    for r in 0..dim {
-        settle_part4(state, dim, r, s, below);
+    for r in 0..t.dim {
+        settle_part4(t, r, s, below);
     }
 }
 
 // What `settle` does, four wide.
-pub fn settle4(state: &mut [f64], dim: usize, s: usize)
-    requires { HasBand state.old dim s 4 }
-    ensures { state.new ≡ stored dim (settled_state (band s 4) (state_at dim state.old)) state.old }
+pub fn settle4(t: &mut Signed, s: usize)
+    requires { s + 4 ≤ t.old.dim }
+    ensures { Holds t.old t.new (settled_state (band s 4) (state_of t.old)) }
 {
-    let at = dim * dim + s;
     let below = Below {
-        x0: state[at] < 0.0,
-        x1: state[at + 1] < 0.0,
-        x2: state[at + 2] < 0.0,
-        x3: state[at + 3] < 0.0,
+        x0: t.sign(s) < 0.0,
+        x1: t.sign(s + 1) < 0.0,
+        x2: t.sign(s + 2) < 0.0,
+        x3: t.sign(s + 3) < 0.0,
     };
     if below.x0 || below.x1 || below.x2 || below.x3 {
-        settle_columns4(state, dim, s, below);
-        settle_rows(state, dim, s, 4);
+        settle_columns4(t, s, below);
+        settle_rows(t, s, 4);
     }
 }
 
 fn negate_all(v: &mut [f64])
     ensures { v.new ≡ map neg v.old }
 {
-    for i in 0..v.len() {
-        v[i] = -v[i];
+    for x in v.iter_mut() {
+        *x = -*x;
     }
 }
 
 // The signs from s on are turned.
-pub fn turn_from(state: &mut [f64], dim: usize, s: usize)
-    requires { HasBand state.old dim s 0 }
-    ensures { state.new ≡ on_part (dim * dim + s) (dim - s) (map neg) state.old }
+pub fn turn_from(t: &mut Signed, s: usize)
+    requires { s ≤ t.old.dim }
+    ensures { Becomes t.old t.new
+        (on_part (t.old.dim * t.old.dim + s) (t.old.dim - s) (map neg) t.old.entries.now) }
 {
-    let a = dim * dim + s;
-    let n = dim - s;
-    negate_all(&mut state[a..a + n]);
+    let a = t.dim * t.dim + s;
+    let n = t.dim - s;
+    negate_all(&mut t.entries[a..a + n]);
 }

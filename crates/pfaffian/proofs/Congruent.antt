@@ -8,10 +8,11 @@ use native.Mathlib.Omega.{arith}
 use lib.Dec.{eqb}
 use lib.Ieee.{Float, binary64, add, mul, div, neg, lt, eq}
 use borrow.Author.Tests.{eqb-true}
+use Rattle.std.proofs.lemmas.Bool.{cond_both}
 use Rattle.laws.specs.Zeros.{+0, +1, nz}
 use Rattle.laws.specs.Tables.{exchanged}
 use Rattle.laws.specs.Matrix.{Mat}
-use Rattle.laws.proofs.Tables.{exchanged-away, exchanged-second, exchanged-below}
+use Rattle.laws.proofs.Tables.{exchanged-away, exchanged-second, exchanged-below, exchanged-from}
 use Rattle.num.specs.Order.{abs_of}
 use Rattle.pfaffian.specs.Pfaffian.{search, pivot_of, pivoted, less, pf, pfaffian_of}
 use Rattle.pfaffian.proofs.Seen.{Seen, Alike, exactly, up-to-zeros, cond-seen, abs-zero}
@@ -46,11 +47,10 @@ pivot-found row k dim h =
 
 -- its entry is brought to column k + 1
 pub pivot-at : (k p : ℕ) (a : Mat) → suc k ≤ p → pivoted p (suc k) a k (suc k) ≡ a k p
-pivot-at k p a l = by (eqb p (suc k)) refl
-  where
-    by : (t : Bool) → eqb p (suc k) ≡ t → cond t a (λ i j. a (exchanged p (suc k) i) (exchanged p (suc k) j)) k (suc k) ≡ a k p
-    by true e = ap (a k) (sym (eqb-true p (suc k) e))
-    by false e = λ t. a (exchanged-away p (suc k) k (λ e. omega arith) (λ e. omega arith) t) (exchanged-second p (suc k) t)
+pivot-at k p a l =
+    cond_both (eqb p (suc k)) _ _ (λ (z : Mat). z k (suc k) ≡ a k p)
+    (λ e. ap (a k) (sym (eqb-true p (suc k) e)))
+    (λ e. λ t. a (exchanged-away p (suc k) k (λ e. omega arith) (λ e. omega arith) t) (exchanged-second p (suc k) t))
 
 -- where the search found no zero, that entry is none
 pub pivot-nonzero : (k dim : ℕ) (a : Mat) → k + 2 ≤ dim
@@ -62,15 +62,6 @@ pivot-nonzero k dim a h f z =
     (sym (abs-zero (a k s.1) (ap nz (sym (pivot-at k s.1 a w.from)) ∙ z))
     ∙ ap (λ x. eq x +0) (sym w.best)
     ∙ f)
-
--- an exchange from k on stays there
-pub exchanged-from : (p q k x : ℕ) → k ≤ p → k ≤ q → k ≤ x → k ≤ exchanged p q x
-exchanged-from p q k x lp lq l = pick (eqb x p) (eqb x q)
-  where
-    pick : (s t : Bool) → k ≤ cond s q (cond t p x)
-    pick true t = lq
-    pick false true = lp
-    pick false false = l
 
 -- ---- matrices seen alike
 

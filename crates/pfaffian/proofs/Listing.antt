@@ -1,6 +1,6 @@
 -- Laws of a shot's outcomes: which mode has which, how the loop over the modes lists them, and the words that they make. Assumes nothing.
 use mathlib.Core.Path.{◌≡◌, refl, sym, ap, ◌∙◌}
-use mathlib.Core.Logic.{◌⊎◌, inl, inr, ◌≢◌}
+use mathlib.Core.Logic.{◌⊎◌, inl, inr, ◌≢◌, ⊎_elim}
 use mathlib.Core.Bool.{Bool, true, false, ◌&&◌}
 use mathlib.Core.List.{List}
 use Prim.Native.Nat.{ℕ, zero, suc, ◌+◌, ◌-◌, ◌*◌, ◌^◌, ◌≤◌, ◌<◌}
@@ -16,7 +16,7 @@ use Rattle.std.proofs.lemmas.List.{take_rest, get_or-take, get_or-drop, length-t
 use borrow.Author.Tests.{le-ltb}
 use Rattle.laws.specs.Tables.{mode_at}
 use Rattle.laws.specs.Matrix.{Mat, at}
-use Rattle.laws.proofs.Cases.{eq-or-ne, lt-or-le}
+use Rattle.std.proofs.lemmas.Bool.{cases_lt, cases_eq}
 use Rattle.pfaffian.specs.Shot.{drawn, after_mode, shot, reached, outcome, draw_from, bit, qubit_bit, word_of}
 use Rattle.pfaffian.specs.Turns.{Stands, Measures, Listed}
 
@@ -62,7 +62,7 @@ pub listed-turn : (k : ℕ) (outcomes bits₀ bits : List Bool) (one : Bool) →
     → Listed k outcomes bits₀ bits
     → Listed (k + 1) outcomes bits₀ (set bits k one)
 listed-turn k outcomes bits₀ bits one h e w = record {
-  done = λ i l. at-or-before i l (eq-or-ne i k);
+  done = λ i l. at-or-before i l (cases_eq i k);
   left = λ i l. get_or-set_other bits k i one false (λ e. omega arith) ∙ w.left i (omega arith);
 }
   where
@@ -71,16 +71,13 @@ listed-turn k outcomes bits₀ bits one h e w = record {
     at-or-before i l (inr q) = get_or-set_other bits k i one false q ∙ w.done i (omega arith)
 
 none-set : (n k : ℕ) → get_or (replicate n false) k false ≡ false
-none-set n k = by (lt-or-le k n)
-  where
-    by : (k < n) ⊎ (n ≤ k) → get_or (replicate n false) k false ≡ false
-    by (inl h) = get_or-replicate n k false false h
-    by (inr h) = get_or-eq_default (replicate n false) false (rw (length-replicate n false) h)
+none-set n k =
+    ⊎_elim (λ h. get_or-replicate n k false false h) (λ h. get_or-eq_default (replicate n false) false (rw (length-replicate n false) h)) (cases_lt k n)
 
 -- over places that are all false they are the outcomes, and nothing else
 pub listed-all : (n m : ℕ) (outcomes bits : List Bool) → length outcomes ≡ n → Listed n outcomes (replicate m false) bits
     → (k : ℕ) → get_or bits k false ≡ get_or outcomes k false
-listed-all n m outcomes bits long w k = by (lt-or-le k n)
+listed-all n m outcomes bits long w k = by (cases_lt k n)
   where
     by : (k < n) ⊎ (n ≤ k) → get_or bits k false ≡ get_or outcomes k false
     by (inl h) = w.done k h
@@ -95,6 +92,10 @@ draws-from draws first t k =
 
 -- ---- the words
 
+pub bit-small : (b : Bool) → bit b ≤ 1
+bit-small true = omega arith
+bit-small false = omega arith
+
 module _ (f : ℕ → Bool) where
   -- a bit put below those that stand from i on
   pub word-turn : (low w i : ℕ) → 0 < i → i ≤ w → bit (f (low + (i - 1))) + 2 * word_of f (low + i) (w - i) ≡ word_of f (low + (i - 1)) (w - (i - 1))
@@ -103,10 +104,6 @@ module _ (f : ℕ → Bool) where
       let n : w - (i - 1) ≡ suc (w - i) = omega arith in
       let s : low + i ≡ suc (low + (i - 1)) = omega arith in
       rw (n, s)
-
-  bit-small : (b : Bool) → bit b ≤ 1
-  bit-small true = omega arith
-  bit-small false = omega arith
 
   pub word_below : (q w : ℕ) → word_of f q w < 2 ^ w
   unfolding word_of
@@ -121,7 +118,7 @@ word_same f g h q (suc w) = λ t. bit (h q t) + 2 * word_same f g h (suc q) w t
 -- the modes of n qubits, lent as a part of a list
 pub modes-taken : (ms : List ℕ) (n : ℕ) (outcomes : List Bool) (q : ℕ) → n ≤ length ms
     → qubit_bit (mode_at (take n ms)) (length (take n ms)) outcomes q ≡ qubit_bit (mode_at ms) n outcomes q
-modes-taken ms n outcomes q h = ap (λ m. ltb q m && get_or outcomes (mode_at (take n ms) q) false) (length-take-le n ms h) ∙ by (lt-or-le q n)
+modes-taken ms n outcomes q h = ap (λ m. ltb q m && get_or outcomes (mode_at (take n ms) q) false) (length-take-le n ms h) ∙ by (cases_lt q n)
   where
     by : (q < n) ⊎ (n ≤ q) → (ltb q n && get_or outcomes (mode_at (take n ms) q) false) ≡ (ltb q n && get_or outcomes (mode_at ms q) false)
     by (inl l) = ap (λ m. ltb q n && get_or outcomes m false) (get_or-take n ms q 0 l)

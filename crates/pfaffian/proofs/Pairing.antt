@@ -1,7 +1,7 @@
 -- Laws of the Pfaffian's loop over the pairs: what is left from pair k on, with the matrix as it stands, gives what the whole gives; a row of zeros
 -- ends it. Assumes nothing.
 use mathlib.Core.Path.{◌≡◌, refl, sym, ◌∙◌}
-use mathlib.Core.Bool.{Bool, true, false, cond}
+use mathlib.Core.Bool.{true, false, cond}
 use mathlib.Core.List.{List}
 use Prim.Native.Nat.{ℕ, suc, ◌+◌, ◌-◌, ◌*◌, ◌/◌, ◌%◌, ◌≤◌, ◌<◌}
 use native.Mathlib.Nat.{le_refl}
@@ -10,26 +10,25 @@ use lib.Dec.{eqb}
 use lib.ListN.{length}
 use lib.Ieee.{Float, binary64, mul, neg, eq, of_bits}
 use borrow.Author.Tests.{eqb-true, le-leb}
+use Rattle.std.proofs.lemmas.Bool.{cond_both}
 use Rattle.laws.specs.Tables.{exchanged}
 use Rattle.laws.specs.Matrix.{Mat, at, matrix, Is}
 use Rattle.laws.specs.Steps.{masked, rows_from, cols_from}
 use Rattle.laws.proofs.Zeros.{zero_bits}
-use Rattle.laws.proofs.Tables.{exchanged_same, exchanged-below}
+use Rattle.laws.proofs.Tables.{exchanged_same, exchanged-below, exchanged-from}
 use Rattle.laws.proofs.Matrix.{matrix-is}
 use Rattle.laws.proofs.Sweep.{masked_on}
 use Rattle.pfaffian.specs.Work.{Kept}
 use Rattle.pfaffian.specs.Pfaffian.{pivot_of, pivoted, less, pf}
 use Rattle.pfaffian.specs.Turns.{brought, Corner}
-use Rattle.pfaffian.proofs.Congruent.{exchanged-from, pf-same}
+use Rattle.pfaffian.proofs.Congruent.{pf-same}
 use Rattle.pfaffian.proofs.Keeping.{kept-corner, kept_then}
 
 -- no exchange is that of an index with itself
 pub pivoted-is : (p q : ℕ) (a : Mat) (i j : ℕ) → pivoted p q a i j ≡ a (exchanged p q i) (exchanged p q j)
-pivoted-is p q a i j = by (eqb p q) refl
-  where
-    by : (t : Bool) → eqb p q ≡ t → cond t a (λ i j. a (exchanged p q i) (exchanged p q j)) i j ≡ a (exchanged p q i) (exchanged p q j)
-    by true e = rw (eqb-true p q e) (λ t. a (sym (exchanged_same q i) t) (sym (exchanged_same q j) t))
-    by false e = refl
+pivoted-is p q a i j =
+    cond_both (eqb p q) _ _ (λ (z : Mat). z i j ≡ a (exchanged p q i) (exchanged p q j))
+    (λ e. rw (eqb-true p q e) (λ t. a (sym (exchanged_same q i) t) (sym (exchanged_same q j) t))) (λ _. refl)
 
 -- the rows exchanged from column k on, and then the columns from row k on
 module _ (p q k dim : ℕ) (m m₁ m₂ : List Float) (hp : p < dim) (hq : q < dim) (lp : k ≤ p) (lq : k ≤ q) (room : dim * dim ≤ length m)

@@ -14,7 +14,7 @@ use borrow.Author.Tests.{eq-eqb, ne_eqb, le-ltb}
 use Rattle.laws.specs.Matrix.{Mat, at, matrix, Is}
 use Rattle.laws.specs.Steps.{masked, in_row, right_from, Formula, by_pair}
 use Rattle.laws.specs.Loops.{up_to, by_row, by_col}
-use Rattle.laws.proofs.Cases.{lt-or-le, eq-or-ne}
+use Rattle.std.proofs.lemmas.Bool.{cases_lt, cases_eq}
 use Rattle.laws.proofs.Matrix.{Within, is-matrix, matrix-then}
 use Rattle.laws.proofs.Loops.{up_done, up_left, none_from, made}
 use Rattle.laws.proofs.Stores.{stores-first, stores-more}
@@ -69,9 +69,9 @@ module _ (a : ℕ) (g : Formula) (dim i : ℕ) (m : List Float) where
     pub two-start : (m' : List Float) (x : Float) → x ≡ by_pair a g (at dim m) i (i + 1) → m' ≡ set m (i * dim + (i + 1)) x → TwoRows (i + 1 + 1) m'
     two-start m' x v e =
         entry_more _ _ dim i (i + 1) m m m' x (omega arith) inside room
-        (λ r h ne. next r ne (eq-or-ne r (i + 1)))
+        (λ r h ne. next r ne (cases_eq r (i + 1)))
         (v ∙ sym (upper (i + 1) (omega arith)))
-        (none_from by_col _ _ dim (i + 1) m (λ r c h l. refl) (λ r c h l k. low r c k (eq-or-ne r i) (eq-or-ne r (i + 1))))
+        (none_from by_col _ _ dim (i + 1) m (λ r c h l. refl) (λ r c h l k. low r c k (cases_eq r i) (cases_eq r (i + 1))))
         e
       where
         next : (r : ℕ) → r ≢ i → (r ≡ i + 1) ⊎ (r ≢ i + 1) → then one r (i + 1) ≡ at dim m r (i + 1)
@@ -133,7 +133,7 @@ module _ (a : ℕ) (g : Formula) (dim i : ℕ) (m : List Float) where
 
 pub last_row : (s : ℕ) (new : Mat) (dim n : ℕ) (m₀ m : List Float) → dim ≤ n + 1 → Swept by_row (right_from s) new dim m₀ n m
     → m ≡ matrix dim (masked (right_from s) new (at dim m₀)) m₀
-last_row s new dim n m₀ m l w = is-matrix dim m₀ _ m (record { long = w.long; each = λ r c h g. w.each r c h g ∙ by r c h g (lt-or-le r n); after = w.after })
+last_row s new dim n m₀ m l w = is-matrix dim m₀ _ m (record { long = w.long; each = λ r c h g. w.each r c h g ∙ by r c h g (cases_lt r n); after = w.after })
   where
     by : (r c : ℕ) → r < dim → c < dim → (r < n) ⊎ (n ≤ r) → up_to by_row n (masked (right_from s) new (at dim m₀)) (at dim m₀) r c ≡ masked (right_from s) new (at dim m₀) r c
     by r c h g (inl k) = up_done by_row _ _ n r c k

@@ -6,6 +6,8 @@ use Rattle.std.specs.Float.Ieee.{add, sub, mul, div, neg}
 use Rattle.laws.specs.Tables.{exchanged}
 use Rattle.laws.specs.Matrix.{Mat, at, matrix}
 use Rattle.laws.specs.Steps.{masked, in_row, cols_from, corner_from, right_from, Formula, by_pair}
+use Rattle.real.specs.declared.entries.Square.{Square}
+use Rattle.real.specs.Squares.{Same}
 use Rattle.pfaffian.specs.Shot.{drawn, after_mode, shot}
 
 -- ---- the Pfaffian
@@ -34,6 +36,11 @@ pub record Corner (dim k : ℕ) (m₀ : List Float) (f : Mat) (m : List Float) :
   pub long : length m ≡ length m₀
   pub each : (r c : ℕ) → k ≤ r → r < dim → k ≤ c → c < dim → at dim m r c ≡ f r c
   pub after : (i : ℕ) → dim * dim ≤ i → get_or m i nan ≡ get_or m₀ i nan
+
+-- the same of a matrix as one value
+pub record Corners (k : ℕ) (m : Square) (f : Mat) (m' : Square) : Type 0 where
+  pub same : Same m m'
+  pub corner : Corner m.dim k m.entries.now f m'.entries.now
 
 -- ---- a shot
 

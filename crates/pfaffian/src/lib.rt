@@ -1,6 +1,6 @@
 // Kernels on a square matrix in lent work, for the queries and samples of a state: the Pfaffian, and one shot of a sample.
-// Each leaves its matrix as work and anything after it as it was. The matrix is a slice with its dimension and no struct of both: a loop would read
-// both anew after each store, and each promise would have to add that they stay.
+// Each leaves its matrix as work and anything after it as it was. The matrix is one value, `real::Square`; all is inlined where it is made, so that no
+// loop reads the slice and the dimension anew.
 
 #![tactic(auto)]
 

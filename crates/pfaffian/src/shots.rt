@@ -3,26 +3,25 @@
 // are laid, negated, over its rows, which are not read again. A fresh matrix and a used one are the same slice, so that a flag tells them apart.
 
 ghost use Rattle.std.specs.Prelude.{◌≡◌, false, ◌+◌, ◌*◌, ◌≤◌, ◌<◌, length, get_or};
-ghost use Rattle.laws.specs.Matrix.{at, Inside, Holds};
 ghost use Rattle.laws.specs.Tables.{mode_at};
-ghost use Rattle.pfaffian.specs.Work.{Kept};
+ghost use Rattle.real.specs.Squares.{cells, Becomes};
+ghost use Rattle.pfaffian.specs.Work.{Works};
 ghost use Rattle.pfaffian.specs.Shot.{max_modes, drawn_of, spin_of, draw_from, bit, qubit_bit, word_of, shot_of};
 ghost use Rattle.pfaffian.specs.Turns.{laid, projected_by, measured_row, measured, laid_pair, Measures, ShotListed};
 
 use num::clamp;
-use real::{entry, put};
+use real::Square;
 
 const MODES: usize = 128; // a shot is two words
 
 // Column i from row s on, negated, over row i.
-fn lay_row(m: &mut [f64], dim: usize, i: usize, s: usize)
-    requires inside { Inside m.old dim i i }
-    requires i_lt_s { (i < s) × (s ≤ dim) }
-    ensures { m.new ≡ laid dim i s m.old }
+fn lay_row(m: &mut Square, i: usize, s: usize)
+    requires { (i < s) × (s ≤ m.old.dim) }
+    ensures { Becomes m.old m.new (laid m.old.dim i s m.old.entries.now) }
 {
-    for e in s..dim {
-        let x = entry(m, dim, e, i);
-        put(m, dim, i, e, -x);
+    for e in s..m.dim {
+        let x = m.entry(e, i);
+        m.put(i, e, -x);
     }
 }
 
@@ -34,57 +33,58 @@ fn projected(f: f64, old: f64, ac: f64, ae: f64, bc: f64, be: f64) -> f64
 }
 
 // The rows c and c + 1 right of the diagonal, by the rows a and a + 1, of which each entry is loaded once for both.
-fn update_two(m: &mut [f64], dim: usize, a: usize, c: usize, f: f64)
-    requires inside { Inside m.old dim (c + 1) (a + 1) }
-    requires a_bound { a + 2 ≤ c }
-    ensures { m.new ≡ measured_row dim a f (c + 1) (measured_row dim a f c m.old) }
+fn update_two(m: &mut Square, a: usize, c: usize, f: f64)
+    requires { (a + 2 ≤ c) × (c + 1 < m.old.dim) }
+    ensures { Becomes m.old m.new
+        (measured_row m.old.dim a f (c + 1) (measured_row m.old.dim a f c m.old.entries.now)) }
 {
     let b = a + 1;
     let d = c + 1;
-    let ac = entry(m, dim, a, c);
-    let bc = entry(m, dim, b, c);
-    let ad = entry(m, dim, a, d);
-    let bd = entry(m, dim, b, d);
-    let between = entry(m, dim, c, d);
-    put(m, dim, c, d, projected(f, between, ac, ad, bc, bd));
-    for e in d + 1..dim {
-        let ae = entry(m, dim, a, e);
-        let be = entry(m, dim, b, e);
-        let upper = entry(m, dim, c, e);
-        let lower = entry(m, dim, d, e);
-        put(m, dim, c, e, projected(f, upper, ac, ae, bc, be));
-        put(m, dim, d, e, projected(f, lower, ad, ae, bd, be));
+    let ac = m.entry(a, c);
+    let bc = m.entry(b, c);
+    let ad = m.entry(a, d);
+    let bd = m.entry(b, d);
+    let between = m.entry(c, d);
+    m.put(c, d, projected(f, between, ac, ad, bc, bd));
+    for e in d + 1..m.dim {
+        let ae = m.entry(a, e);
+        let be = m.entry(b, e);
+        let upper = m.entry(c, e);
+        let lower = m.entry(d, e);
+        m.put(c, e, projected(f, upper, ac, ae, bc, be));
+        m.put(d, e, projected(f, lower, ad, ae, bd, be));
     }
 }
 
 // All rows after the pair a, a + 1, which hold minus the columns. The last row has nothing right of the diagonal.
-fn update_rows(m: &mut [f64], dim: usize, a: usize, f: f64)
-    requires { Holds m.old dim a 2 }
-    ensures { m.new ≡ measured dim a f m.old }
+fn update_rows(m: &mut Square, a: usize, f: f64)
+    requires { a + 2 ≤ m.old.dim }
+    ensures { Becomes m.old m.new (measured m.old.dim a f m.old.entries.now) }
 {
-    for pair in 0..(dim - (a + 2)) / 2 {
-        update_two(m, dim, a, a + 2 + 2 * pair, f);
+    for pair in 0..(m.dim - (a + 2)) / 2 {
+        update_two(m, a, a + 2 + 2 * pair, f);
     }
 }
 
 // The rows a and a + 1 made to hold minus the columns.
-fn lay_pair(m: &mut [f64], dim: usize, a: usize, fresh: bool)
-    requires { Holds m.old dim a 2 }
-    ensures { m.new ≡ laid_pair dim a fresh m.old }
+fn lay_pair(m: &mut Square, a: usize, fresh: bool)
+    requires { a + 2 ≤ m.old.dim }
+    ensures { Becomes m.old m.new (laid_pair m.old.dim a fresh m.old.entries.now) }
 {
     if fresh {
-        lay_row(m, dim, a, a + 2);
-        lay_row(m, dim, a + 1, a + 2);
+        lay_row(m, a, a + 2);
+        lay_row(m, a + 1, a + 2);
     }
 }
 
 // The places after the pair a, a + 1, right of the diagonal.
-fn update(m: &mut [f64], dim: usize, a: usize, f: f64, fresh: bool)
-    requires { Holds m.old dim a 2 }
-    ensures { m.new ≡ measured dim a f (laid_pair dim a fresh m.old) }
+fn update(m: &mut Square, a: usize, f: f64, fresh: bool)
+    requires { a + 2 ≤ m.old.dim }
+    ensures { Becomes m.old m.new
+        (measured m.old.dim a f (laid_pair m.old.dim a fresh m.old.entries.now)) }
 {
-    lay_pair(m, dim, a, fresh);
-    update_rows(m, dim, a, f);
+    lay_pair(m, a, fresh);
+    update_rows(m, a, f);
 }
 
 // The outcome for a draw. Beside a NaN it is 0.
@@ -109,35 +109,35 @@ struct Measured {
 }
 
 // Mode k is measured with its draw.
-fn measure(m: &mut [f64], dim: usize, k: usize, fresh: bool, draw: f64) -> Measured
-    requires { Holds m.old dim (2 * k) 2 }
-    ensures plain { Measures dim k draw fresh m.old result.one result.fresh m.new }
-    ensures kept { Kept dim m.old m.new }
+fn measure(m: &mut Square, k: usize, fresh: bool, draw: f64) -> Measured
+    requires { 2 * k + 2 ≤ m.old.dim }
+    ensures plain { Measures m.old.dim k draw fresh m.old.entries.now result.one result.fresh
+        m.new.entries.now }
+    ensures kept { Works m.old m.new }
 {
     let a = 2 * k;
-    let mab = clamp(entry(m, dim, a, a + 1), -1.0, 1.0);
+    let mab = clamp(m.entry(a, a + 1), -1.0, 1.0);
     let one = drawn(mab, draw);
     let s = spin(one);
     let den = 1.0 + s * mab;
     if den <= 1e-300 {
         return Measured { one, fresh };
     }
-    update(m, dim, a, s / den, fresh);
+    update(m, a, s / den, fresh);
     Measured { one, fresh: false }
 }
 
-// All n modes in their order: mode k uses draw k, and bits[k] is its outcome.
-fn measure_modes(m: &mut [f64], n: usize, draws: &[f64], bits: &mut [bool])
-    requires n_in_bounds { 2 * n * (2 * n) ≤ length m.old }
+// All n modes in their order: mode k uses draw k, and bits[k] is its outcome. The slices may be longer than n: what comes after is not read.
+fn measure_modes(m: &mut Square, n: usize, draws: &[f64], bits: &mut [bool])
+    requires rows { m.old.dim ≡ 2 * n }
     requires n_in_bounds_2 { n ≤ length bits.old }
     requires n_in_bounds_3 { n ≤ length draws.now }
-    ensures bits { ShotListed n (at (2 * n) m.old) (draw_from draws.now 0) bits.old bits.new }
-    ensures kept { Kept (2 * n) m.old m.new }
+    ensures bits { ShotListed n (cells m.old) (draw_from draws.now 0) bits.old bits.new }
+    ensures kept { Works m.old m.new }
 {
-    let dim = 2 * n;
     let mut fresh = true;
     for k in 0..n {
-        let r = measure(m, dim, k, fresh, draws[k]);
+        let r = measure(m, k, fresh, draws[k]);
         bits[k] = r.one;
         fresh = r.fresh;
     }
@@ -178,14 +178,15 @@ pub struct Words {
 }
 
 // One shot: bit q is the outcome of the mode that qubit q has. The matrix is overwritten; mode k uses draw k.
-pub fn shot(m: &mut [f64], n: usize, draws: &[f64], modes: &[u16]) -> Words
-    requires n_in_bounds { 2 * n * (2 * n) ≤ length m.old }
+pub fn shot(m: &mut Square, n: usize, draws: &[f64], modes: &[u16]) -> Words
+    requires rows { m.old.dim ≡ 2 * n }
     requires n_le_max_modes { n ≤ max_modes }
     requires n_in_bounds_2 { n ≤ length draws.now }
     requires n_in_bounds_3 { n ≤ length modes.now }
-    ensures words { result ≡ shot_of (at (2 * n) m.old) n (draw_from draws.now 0) (mode_at modes.now) }
-    ensures kept { Kept (2 * n) m.old m.new }
+    ensures words { result ≡ shot_of (cells m.old) n (draw_from draws.now 0) (mode_at modes.now) }
+    ensures kept { Works m.old m.new }
 {
+    // 128 places for every n: no heap
     let mut bits = [false; MODES];
     measure_modes(m, n, draws, &mut bits);
     let modes = &modes[..n];

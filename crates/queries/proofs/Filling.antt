@@ -1,25 +1,25 @@
 -- Laws of a matrix that is laid into work: a whole one, row by row; halved entries; a pair of entries a turn; and that matrices which are alike have
 -- the same Pfaffian. Assumes nothing.
 use mathlib.Core.Path.{◌≡◌, refl, sym, ap, ◌∙◌}
-use mathlib.Core.Logic.{◌⊎◌, inl, inr, ◌≢◌}
-use mathlib.Core.Bool.{false, ◌&&◌}
+use mathlib.Core.Logic.{◌≢◌}
 use mathlib.Core.List.{List, [], ◌∷◌, ◌++◌, map}
 use Prim.Native.Nat.{ℕ, zero, suc, ◌+◌, ◌*◌, ◌/◌, ◌%◌, ◌≤◌, ◌<◌}
 use native.Mathlib.Nat.{le_of_eq}
 use native.Mathlib.Omega.{arith}
-use lib.Dec.{eqb}
-use lib.ListN.{length, take, drop, get_or, set, length-set}
+use lib.ListN.{length, take, drop, get_or, set}
 use lib.Ieee.{Float, nan, binary64, add, sub}
 use borrow.Author.Tests.{eq-eqb, ne_eqb}
 use Rattle.laws.specs.Slices.{mapped_to}
 use Rattle.laws.specs.Matrix.{Mat, at, matrix, Is}
 use Rattle.laws.specs.Steps.{masked, in_row}
-use Rattle.laws.specs.Loops.{up_to, by_row, by_col}
-use Rattle.laws.proofs.Cases.{eq-or-ne}
+use Rattle.laws.specs.Loops.{by_row, by_col}
 use Rattle.laws.proofs.Slices.{length-mapped, mapped-done, mapped-left}
-use Rattle.laws.proofs.Matrix.{place_in, is-matrix, matrix-is, at_set_same, at_set_other, after-set}
-use Rattle.laws.proofs.Loops.{more, up_left}
+use Rattle.laws.proofs.Matrix.{place_in, is-matrix, matrix-is}
+use Rattle.laws.proofs.Loops.{up_left}
 use Rattle.laws.proofs.Sweep.{Swept, masked_on, sweep-start, sweep-store, sweep-row, sweep-done}
+-- a turn makes anew the pair of entries (2n, 2n + 1) and (2n + 1, 2n)
+pub use Rattle.laws.proofs.Pairs.{by_half as by_pairs, PairsUpTo, pairs-more}
+use Rattle.laws.proofs.Tests.{no-pair}
 use Rattle.queries.specs.Products.{index_of}
 use Rattle.queries.specs.Inner.{Below, everywhere}
 use Rattle.queries.specs.Marginals.{shifted}
@@ -98,68 +98,6 @@ mapped-is f dim m₀ m room e = record {
   after = λ i h. rw e (mapped-left f (dim * dim) m₀ i nan h);
 }
 
--- ---- a turn makes anew the pair of entries (2n, 2n + 1) and (2n + 1, 2n)
-
--- turn n makes the rows of pair n
-abbrev pub by_pairs : ℕ → ℕ → ℕ
-by_pairs r c = r / 2
-
-module _ (new : Mat) (dim : ℕ) (m₀ : List Float) where
-  abbrev pub PairsUpTo : ℕ → List Float → Type 0
-  PairsUpTo n m = Is dim m₀ (up_to by_pairs n new (at dim m₀)) m
-
-  pub pairs-more : (n : ℕ) (m m₁ m₂ : List Float) (x y : Float) → 2 * n + 1 < dim → dim * dim ≤ length m₀ → PairsUpTo n m
-      → m₁ ≡ set m (2 * n * dim + (2 * n + 1)) x → m₂ ≡ set m₁ ((2 * n + 1) * dim + 2 * n) y
-      → x ≡ new (2 * n) (2 * n + 1) → y ≡ new (2 * n + 1) (2 * n)
-      → ((r c : ℕ) → (r % 2 ≡ 0 → c ≢ r + 1) → (c % 2 ≡ 0 → r ≢ c + 1) → new r c ≡ at dim m₀ r c)
-      → PairsUpTo (n + 1) m₂
-  pairs-more n m m₁ m₂ x y h room w e₁ e₂ ex ey rest = more by_pairs _ _ dim n m₀ m m₂ w (l₂ ∙ l₁) after other own
-    where
-      a : 2 * n < dim
-      a = omega arith
-
-      l₁ : length m₁ ≡ length m
-      l₁ = rw e₁ (length-set m (2 * n * dim + (2 * n + 1)) x)
-
-      l₂ : length m₂ ≡ length m₁
-      l₂ = rw e₂ (length-set m₁ ((2 * n + 1) * dim + 2 * n) y)
-
-      after : (i : ℕ) → dim * dim ≤ i → get_or m₂ i nan ≡ get_or m i nan
-      after i b = rw e₂ (after-set dim (2 * n + 1) (2 * n) i m₁ y h a b ∙ rw e₁ (after-set dim (2 * n) (2 * n + 1) i m x a h b))
-
-      -- neither of the two
-      away : (r c : ℕ) → c < dim → (r ≡ 2 * n → c ≡ 2 * n + 1 → ⊥) → (r ≡ 2 * n + 1 → c ≡ 2 * n → ⊥) → at dim m₂ r c ≡ at dim m r c
-      away r c g p q =
-          rw e₂ (at_set_other dim (2 * n + 1) (2 * n) r c m₁ y a g q ∙ rw e₁ (at_set_other dim (2 * n) (2 * n + 1) r c m x h g p))
-
-      upper : at dim m₂ (2 * n) (2 * n + 1) ≡ x
-      upper =
-          rw e₂
-          (at_set_other dim (2 * n + 1) (2 * n) (2 * n) (2 * n + 1) m₁ y a h (λ p q. omega arith)
-          ∙ rw e₁ (at_set_same dim (2 * n) (2 * n + 1) m x a h (omega (arith, w.long))))
-
-      lower : at dim m₂ (2 * n + 1) (2 * n) ≡ y
-      lower = rw e₂ (at_set_same dim (2 * n + 1) (2 * n) m₁ y h a (omega (arith, w.long, l₁)))
-
-      other : (r c : ℕ) → r < dim → c < dim → r / 2 ≢ n → at dim m₂ r c ≡ at dim m r c
-      other r c p g k = away r c g (λ y z. k (omega arith)) (λ y z. k (omega arith))
-
-      old : (r c : ℕ) → r < dim → c < dim → r / 2 ≡ n → at dim m r c ≡ at dim m₀ r c
-      old r c p g k = w.each r c p g ∙ up_left by_pairs _ _ n r c (le_of_eq (sym k))
-
-      own : (r c : ℕ) → r < dim → c < dim → r / 2 ≡ n → at dim m₂ r c ≡ new r c
-      own r c b g k = by (eq-or-ne r (2 * n)) (eq-or-ne c (2 * n)) (eq-or-ne c (2 * n + 1))
-        where
-          by : (r ≡ 2 * n) ⊎ (r ≢ 2 * n) → (c ≡ 2 * n) ⊎ (c ≢ 2 * n) → (c ≡ 2 * n + 1) ⊎ (c ≢ 2 * n + 1) → at dim m₂ r c ≡ new r c
-          by (inl p) _ (inl q) = (λ t. at dim m₂ (p t) (q t)) ∙ upper ∙ ex ∙ (λ t. new (sym p t) (sym q t))
-          by (inl p) _ (inr q) =
-              away r c g (λ y z. q z) (λ y z. omega arith) ∙ old r c b g k ∙ sym (rest r c (λ y z. q (omega arith)) (λ y z. omega arith))
-          by (inr p) (inl q) _ =
-              let o : r ≡ 2 * n + 1 = omega arith in
-              (λ t. at dim m₂ (o t) (q t)) ∙ lower ∙ ey ∙ (λ t. new (sym o t) (sym q t))
-          by (inr p) (inr q) _ =
-              away r c g (λ y z. p y) (λ y z. q z) ∙ old r c b g k ∙ sym (rest r c (λ y z. omega arith) (λ y z. q (omega arith)))
-
 -- ---- the pairs of a marginal
 
 module _ (s : ℕ → Float) (a : Mat) where
@@ -177,14 +115,7 @@ module _ (s : ℕ → Float) (a : Mat) where
       rw (ne_eqb ((2 * n + 1) % 2) 0 o, eq-eqb (2 * n % 2) 0 z, eq-eqb (2 * n + 1) (2 * n + 1) refl, q)
 
   shift_none : (r c : ℕ) → (r % 2 ≡ 0 → c ≢ r + 1) → (c % 2 ≡ 0 → r ≢ c + 1) → shifted s a r c ≡ a r c
-  shift_none r c h g = rw (test r c h, test c r g)
-    where
-      test : (r c : ℕ) → (r % 2 ≡ 0 → c ≢ r + 1) → eqb (r % 2) 0 && eqb c (r + 1) ≡ false
-      test r c h = by (eq-or-ne (r % 2) 0)
-        where
-          by : (r % 2 ≡ 0) ⊎ (r % 2 ≢ 0) → eqb (r % 2) 0 && eqb c (r + 1) ≡ false
-          by (inl e) = rw (eq-eqb (r % 2) 0 e, ne_eqb c (r + 1) (h e))
-          by (inr e) = rw (ne_eqb (r % 2) 0 e)
+  shift_none r c h g = rw (no-pair r c h, no-pair c r g)
 
 -- pair n is shifted
 pub shift-more : (s : ℕ → Float) (dim n : ℕ) (m₀ m m₂ : List Float) (x : Float) → 2 * n + 1 < dim → dim * dim ≤ length m₀ → x ≡ s n

@@ -2,17 +2,18 @@
 -- Assumes nothing.
 use mathlib.Core.Path.{◌≡◌, refl, sym, ap, ◌∙◌}
 use mathlib.Core.Logic.{◌≢◌}
-use mathlib.Core.Bool.{Bool, true, false, cond, ◌||◌}
+use mathlib.Core.Bool.{Bool, true, false, ◌||◌}
 use mathlib.Core.List.{List}
-use Prim.Native.Nat.{ℕ, zero, suc, ◌-◌, ◌≤◌, ◌<◌}
+use Prim.Native.Nat.{ℕ, ◌≤◌, ◌<◌}
 use native.Mathlib.Nat.{le_refl}
 use native.Mathlib.Omega.{arith}
 use lib.Dec.{leb, ltb}
 use lib.ListN.{length, get_or}
 use lib.Ieee.{Float}
 use borrow.Author.Tests.{eq-eqb, le-leb, lt-leb, le-ltb}
+use Rattle.std.proofs.lemmas.Bool.{cond_both}
+use Rattle.laws.proofs.Tests.{all_of}
 use Rattle.laws.specs.Views.{list_of}
-use Rattle.laws.specs.Tests.{all_below}
 use Rattle.laws.specs.Tables.{mode_at}
 use Rattle.laws.proofs.Views.{length-list_of, get_or-list_of}
 use Rattle.state.specs.Modes.{is_permutation}
@@ -20,24 +21,15 @@ use Rattle.state.specs.Questions.{state_ok}
 use Rattle.state.proofs.Permutations.{mode-one}
 use Rattle.state.proofs.Questions as questions
 use Rattle.queries.specs.Lists.{outside, mode_listed, bit_listed, noted, contradicts, bits_ok, stop_place, asked}
-use Rattle.queries.specs.Basis.{word_bits, word_bit, basis_bit_of, basis_mark}
+use Rattle.queries.specs.Basis.{word_bits, basis_bit_of, basis_mark}
 use Rattle.queries.specs.Calls.{covariance_of, probability_of, probability_work, marginal_probability_of, marginal_probability_work}
 use Rattle.queries.proofs.Searches.{first-all}
 use Rattle.queries.proofs.Marking.{noted-alike, none-contradicts}
 use Rattle.queries.proofs.Leaving.{answer-alike, work-alike}
 
-all_pass : (f : ℕ → Bool) (n : ℕ) → ((k : ℕ) → k < n → f k ≡ true) → all_below f n ≡ true
-unfolding all_below
-all_pass f zero h = refl
-all_pass f (suc n) h = rw (all_pass f n (λ k g. h k (omega arith)), h n (omega arith))
-
 pub basis-small : (low high q : ℕ) → basis_bit_of low high q ≤ 1
 unfolding basis_bit_of
-basis-small low high q = by (ltb q word_bits)
-  where
-    by : (t : Bool) → cond t (word_bit low q) (word_bit high (q - word_bits)) ≤ 1
-    by true = omega arith
-    by false = omega arith
+basis-small low high q = cond_both (ltb q word_bits) _ _ (λ z. z ≤ 1) (λ _. omega arith) (λ _. omega arith)
 
 -- all n qubits, and their bits
 abbrev pub all_qubits : ℕ → List ℕ
@@ -47,23 +39,23 @@ abbrev pub basis_bits : ℕ → ℕ → ℕ → List ℕ
 basis_bits n low high = list_of n (basis_bit_of low high)
 
 module _ (n low high : ℕ) where
-  qubits-long : length (all_qubits n) ≡ n
+  pub qubits-long : length (all_qubits n) ≡ n
   qubits-long = length-list_of n (λ q. q)
 
-  bits-long : length (basis_bits n low high) ≡ n
+  pub bits-long : length (basis_bits n low high) ≡ n
   bits-long = length-list_of n (basis_bit_of low high)
 
-  qubit-here : (j : ℕ) → j < n → get_or (all_qubits n) j 0 ≡ j
+  pub qubit-here : (j : ℕ) → j < n → get_or (all_qubits n) j 0 ≡ j
   qubit-here j h = get_or-list_of {A = ℕ} n (λ q. q) j 0 h
 
-  bit-here : (j : ℕ) → j < n → get_or (basis_bits n low high) j 0 ≡ basis_bit_of low high j
+  pub bit-here : (j : ℕ) → j < n → get_or (basis_bits n low high) j 0 ≡ basis_bit_of low high j
   bit-here j h = get_or-list_of {A = ℕ} n (basis_bit_of low high) j 0 h
 
   bits-fine : bits_ok (all_qubits n) (basis_bits n low high) ≡ true
   unfolding bits_ok
   bits-fine =
       rw (eq-eqb (length (all_qubits n)) (length (basis_bits n low high)) (qubits-long ∙ sym bits-long))
-      (all_pass (λ j. leb (get_or (basis_bits n low high) j 0) 1) (length (basis_bits n low high))
+      (all_of (λ j. leb (get_or (basis_bits n low high) j 0) 1) (length (basis_bits n low high))
       (λ k h. le-leb (get_or (basis_bits n low high) k 0) 1 (rw (bit-here k (rw bits-long at h)) (basis-small low high k))))
 
   module _ (modes : List ℕ) (p : is_permutation n modes ≡ true) where

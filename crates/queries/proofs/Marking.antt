@@ -1,7 +1,7 @@
 -- Laws of the marks: a turn of each loop that marks modes, and what the modes left are. Assumes nothing.
 use mathlib.Core.Path.{◌≡◌, refl, sym, ap, ◌∙◌}
-use mathlib.Core.Logic.{◌⊎◌, inl, inr, ◌≢◌}
-use mathlib.Core.Bool.{Bool, true, false, not, cond, ◌&&◌}
+use mathlib.Core.Logic.{◌⊎◌, inl, inr, ◌≢◌, ⊎_elim}
+use mathlib.Core.Bool.{Bool, true, false, not, cond, ◌&&◌, and-false}
 use mathlib.Core.List.{List}
 use Rattle.std.proofs.Common.{Option, Some, None}
 use Prim.Native.Nat.{ℕ, zero, suc, ◌+◌, ◌≤◌, ◌<◌}
@@ -10,12 +10,13 @@ use native.Mathlib.Omega.{arith}
 use lib.Dec.{eqb, leb, ltb}
 use lib.ListN.{take, length, get_or, set, length-set, replicate, length-replicate, get_or-replicate}
 use lib.Seq.{get_or-set_same, get_or-set_other}
-use borrow.Author.Tests.{eq-eqb, ne_eqb, eqb-true, lt-ltb, leb-true}
+use borrow.Author.Tests.{eq-eqb, ne_eqb, eqb-true, lt-ltb, leb-true, not-false}
 use Rattle.laws.specs.Tests.{all_below}
 use Rattle.std.proofs.lemmas.List.{length-take-le, get_or-take}
 use Rattle.laws.specs.Bounds.{max_qubits}
-use Rattle.laws.proofs.Cases.{eq-or-ne}
-use Rattle.laws.proofs.Tests.{and_left, and_right, all-each}
+use Rattle.std.proofs.lemmas.Bool.{cases_eq, and_parts}
+use Rattle.laws.proofs.Tests.{all-each}
+pub use Rattle.pfaffian.proofs.Listing.{bit-small}
 use Rattle.pfaffian.specs.Shot.{bit}
 use Rattle.queries.specs.Lists.{odd_modes, mode_listed, odd_mode, noted, conflicts_of, contradicts, bits_ok, passing}
 use Rattle.std.specs.Option.{is_some, unwrap_or}
@@ -30,7 +31,7 @@ module _ {A B : Type 0} (d : A) (read : A → B) where
       → ((j : ℕ) → j ≢ k → g j ≡ f j) → Marked d read n g (set marks k x)
   marked-set n f g marks k x h w e o = record {
     long = rw length-set w.long;
-    each = λ j l. by j l (eq-or-ne j k);
+    each = λ j l. by j l (cases_eq j k);
   }
     where
       by : (j : ℕ) → j < n → (j ≡ k) ⊎ (j ≢ k) → read (get_or (set marks k x) j d) ≡ g j
@@ -54,10 +55,6 @@ module _ {A B : Type 0} (d : A) (read : A → B) where
 
 -- ---- a product: the count of a mode turns odd or even
 
-pub bit-small : (b : Bool) → bit b ≤ 1
-bit-small true = omega arith
-bit-small false = omega arith
-
 pub odd-turn : (n : ℕ) (modes qs : List ℕ) (odd : List Bool) (i k : ℕ) (x : Bool) → k < n → k ≡ mode_listed modes qs i
     → Odd n (odd_mode modes qs i) odd → x ≡ not (get_or odd k false) → Odd n (odd_mode modes qs (i + 1)) (set odd k x)
 odd-turn n modes qs odd i k x h e w ex =
@@ -69,11 +66,7 @@ odd-turn n modes qs odd i k x h e w ex =
 
 -- a bit that is 0 or 1, as it is read
 pub read_is : (x : ℕ) → x ≤ 1 → bit (eqb x 1) ≡ x
-read_is x h = by (eq-or-ne x 1)
-  where
-    by : (x ≡ 1) ⊎ (x ≢ 1) → bit (eqb x 1) ≡ x
-    by (inl e) = rw (eq-eqb x 1 e) (sym e)
-    by (inr ne) = rw (ne_eqb x 1 ne) (omega arith)
+read_is x h = ⊎_elim (λ e. rw (eq-eqb x 1 e) (sym e)) (λ ne. rw (ne_eqb x 1 ne) (omega arith)) (cases_eq x 1)
 
 -- a mode is asked for a bit, and for a one
 pub is_asked : (o : Option Bool) → is_some o ≡ ltb 0 (mark_of o)
@@ -93,18 +86,14 @@ module _ (m b : ℕ → ℕ) where
   unfolding noted
   noted_more i k = rw add-one
 
-  not-not : (t : Bool) → not t ≡ false → t ≡ true
-  not-not true e = refl
-  not-not false e = sym e
-
   kept : (x y : ℕ) → conflicts_of x y ≡ false → cond (eqb x 0 && true) y x ≡ y
-  kept x y e = by (eq-or-ne x 0)
+  kept x y e = by (cases_eq x 0)
     where
       by : (x ≡ 0) ⊎ (x ≢ 0) → cond (eqb x 0 && true) y x ≡ y
       by (inl q) = rw (eq-eqb x 0 q)
       by (inr q) =
           let above : ltb 0 x ≡ true = lt-ltb 0 x (omega arith) in
-          rw (ne_eqb x 0 q) (eqb-true x y (not-not (eqb x y) (rw above at e)))
+          rw (ne_eqb x 0 q) (eqb-true x y (not-false (eqb x y) (rw above at e)))
 
   -- of its own mode its bit, of others what was noted
   pub noted_here : (i k : ℕ) → k ≡ m i → contradicts m b i ≡ false → noted m b (i + 1) k ≡ suc (b i)
@@ -112,8 +101,7 @@ module _ (m b : ℕ → ℕ) where
       noted_more i k ∙ rw (eq-eqb (m i) k (sym e)) (kept (noted m b i k) (suc (b i)) (ap (λ k. conflicts_of (noted m b i k) (suc (b i))) e ∙ c))
 
   not-here : (x y : ℕ) (t : Bool) → cond (t && false) x y ≡ y
-  not-here x y true = refl
-  not-here x y false = refl
+  not-here x y t = rw (and-false t)
 
   pub noted-there : (i k : ℕ) → k ≢ m i → noted m b (i + 1) k ≡ noted m b i k
   noted-there i k ne =
@@ -155,8 +143,8 @@ unfolding bits_ok
 bits-asked qs bits e =
     let a = eqb (length qs) (length bits) in
     let ok = all_below (λ j. leb (get_or bits j 0) 1) (length bits) in record {
-      many = eqb-true (length qs) (length bits) (and_left a ok e);
-      small = λ j h. leb-true (get_or bits j 0) 1 (all-each (λ j. leb (get_or bits j 0) 1) (length bits) j (and_right a ok e) h);
+      many = eqb-true (length qs) (length bits) (and_parts a ok e).0;
+      small = λ j h. leb-true (get_or bits j 0) 1 (all-each (λ j. leb (get_or bits j 0) 1) (length bits) j (and_parts a ok e).1 h);
     }
 
 -- ---- the modes left

@@ -17,7 +17,7 @@ use borrow.Author.Tests.{eq-eqb, ne_eqb, lt-ltb, le-ltb}
 use Rattle.laws.specs.Matrix.{Mat, at, matrix}
 use Rattle.laws.specs.Tables.{mode_at}
 use Rattle.laws.specs.Bounds.{max_qubits}
-use Rattle.laws.proofs.Cases.{eq-or-ne, lt-or-le}
+use Rattle.std.proofs.lemmas.Bool.{cases_lt, cases_eq}
 use Rattle.laws.proofs.Views.{length-list_of, get_or-list_of}
 use Rattle.laws.proofs.Matrix.{matrix-is}
 use Rattle.pfaffian.specs.Shot.{draw_from, shot_of}
@@ -85,7 +85,7 @@ module _ (W : ℕ → Words) where
       → Written (i + 1) out₀ (set (set out (2 * i) w.low) (2 * i + 1) w.high)
   written-more i out₀ out w room e v = record {
     long = length-set (set out (2 * i) w.low) (2 * i + 1) w.high ∙ l₁ ∙ v.long;
-    done = λ j h. done j h (eq-or-ne j (2 * i)) (eq-or-ne j (2 * i + 1));
+    done = λ j h. done j h (cases_eq j (2 * i)) (cases_eq j (2 * i + 1));
     left = λ j h. away j (λ q. omega arith) (λ q. omega arith) ∙ v.left j (omega arith);
   }
     where
@@ -120,7 +120,7 @@ pub written_all : (e : Mat) (n : ℕ) (modes : List ℕ) (shots : ℕ) (draws : 
 unfolding sampled
 written_all e n modes shots draws i out₀ out h g v =
     ext_get_or 0 out (sampled e n modes shots draws out₀) (v.long ∙ sym (length-list_of _ _)) (λ j b. one j (rw v.long at b)
-    (lt-or-le j (2 * shots)))
+    (cases_lt j (2 * shots)))
   where
     one : (j : ℕ) → j < length out₀ → (j < 2 * shots) ⊎ (2 * shots ≤ j) → get_or out j 0 ≡ get_or (sampled e n modes shots draws out₀) j 0
     one j b (inl k) = rw (get_or-list_of {A = ℕ} _ _ j 0 b, lt-ltb j (2 * shots) k) (v.done j (omega arith))

@@ -7,11 +7,9 @@ use Prim.Native.Nat.{ℕ, zero, suc, ◌+◌, ◌-◌, ◌≤◌, ◌<◌}
 use native.Mathlib.Nat.{not-suc-le-zero, le_refl, add-zero, zero-add}
 use native.Mathlib.Numerals.{add-one}
 use native.Mathlib.Omega.{arith}
-use lib.ListN.{length, get_or, set, take, length-append, get_or-append}
-use Rattle.std.proofs.lemmas.List.{take-set, take_more_set}
+use lib.ListN.{length, get_or, length-append, get_or-append}
 use lib.Seq.{get_or-append-add}
-use Rattle.laws.proofs.Cases.{lt-or-le, eq-or-ne}
-use Rattle.pfaffian.specs.Shot.{bit}
+use Rattle.std.proofs.lemmas.Bool.{cases_lt, cases_eq, cond_both}
 use Rattle.queries.specs.Lists.{first_from, oddly, passing}
 
 -- ---- the first, as a loop from k on meets it
@@ -33,11 +31,7 @@ module _ (p : ℕ → Bool) where
   first-within : (n k : ℕ) → first_from p k n ≤ k + n
   unfolding first_from
   first-within zero k = omega arith
-  first-within (suc n) k = by (p k) (first-within n (suc k))
-    where
-      by : (t : Bool) → first_from p (suc k) n ≤ suc k + n → cond t k (first_from p (suc k) n) ≤ k + suc n
-      by true h = omega arith
-      by false h = omega (arith, h)
+  first-within (suc n) k = cond_both (p k) _ _ (λ z. z ≤ k + suc n) (λ _. omega arith) (λ _. omega (arith, (first-within n (suc k))))
 
   pub first-end : (n place : ℕ) → place ≡ first_from p 0 n → n ≤ place → place ≡ n
   first-end n place e h = omega (arith, e, first-within n 0)
@@ -153,7 +147,7 @@ module _ (p : ℕ → Bool) where
       }
         where
           end : (j : ℕ) → j < length (l ++ (n ∷ [])) → (j ≡ length l) ⊎ (j < length l)
-          end j h = pick (lt-or-le j (length l))
+          end j h = pick (cases_lt j (length l))
             where
               pick : (j < length l) ⊎ (length l ≤ j) → (j ≡ length l) ⊎ (j < length l)
               pick (inl g) = inr g
@@ -179,7 +173,7 @@ module _ (p : ℕ → Bool) where
   pub passing-all : (n k : ℕ) → k < n → p k ≡ true → (j : ℕ) × ((j < length (passing p n)) × (get_or (passing p n) j 0 ≡ k))
   unfolding passing
   passing-all zero k h e = absurd (not-suc-le-zero h)
-  passing-all (suc n) k h e = by (p n) refl (eq-or-ne k n) (passing-all n k)
+  passing-all (suc n) k h e = by (p n) refl (cases_eq k n) (passing-all n k)
     where
       l : List ℕ
       l = passing p n
@@ -197,13 +191,3 @@ module _ (p : ℕ → Bool) where
           false-true : true ≡ false → ⊥
           false-true z = let y : ◌≡◌ {A = ℕ} 0 1 = cc in omega arith
       by false f (inr q) r = r (omega arith) e
-
-  -- ---- the loop that lists them in the first places of an array
-
-  pub listed_more : (k count t : ℕ) (array : List ℕ) → t ≡ bit (p k) → count < length array → take count array ≡ passing p k
-      → take (count + t) (set array count k) ≡ passing p (k + 1)
-  listed_more k count t array et h w = by (p k) refl et
-    where
-      by : (b : Bool) → p k ≡ b → t ≡ bit b → take (count + t) (set array count k) ≡ passing p (k + 1)
-      by true e et = rw (et, passing-on k e) (take_more_set array count k h ∙ ap (λ l. l ++ (k ∷ [])) w)
-      by false e et = rw (et, passing-off k e, add-zero) (take-set array count k ∙ w)

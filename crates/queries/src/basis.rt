@@ -1,4 +1,4 @@
-// The probability of a basis index.
+// The probability of a basis index, which comes as two words, as C hands it over.
 
 ghost use Rattle.std.specs.Prelude.{◌≡◌, ◌<◌};
 ghost use Rattle.laws.specs.Bounds.{max_qubits};

@@ -1,6 +1,7 @@
 // The queries on a state (001's state.rs): products of Z, marginals, basis indices and samples. Each reads the covariance of the modes
 // that it is about into lent work, runs a kernel of `pfaffian` there, and leaves the work zero. A public call asks nothing of its
-// caller: what is wrong with n, a slice, a list or the mode table is a refusal.
+// caller: what is wrong with n, a slice, a list or the mode table is a refusal. n, state and modes come one by one, as C hands them over; once question 16
+// has passed they are one value, `state::Checked`, and the matrix in work is `real::Square`. Marks have MAX_QUBITS places: no heap.
 
 #![tactic(auto)]
 

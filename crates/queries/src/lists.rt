@@ -1,10 +1,15 @@
-// The list of a query. Its places are read once, in their order, and what they say is kept for each mode.
+// The list of a query. Its places are read once, in their order, and what they say is kept for each mode. Qubits and bits are two slices, as C hands them
+// over: question 18 compares their lengths.
 
-ghost use Rattle.std.specs.Prelude.{◌≡◌, Bool, true, false, ℕ, suc, ◌<◌, ◌≤◌, length, get_or, take, MatchResult};
+ghost use Rattle.std.specs.Prelude.{◌≡◌, Bool, true, false, ℕ, suc, ◌<◌, ◌≤◌, length, get_or, MatchResult};
+ghost use Rattle.arrayvec.specs.ArrayVec.{array_vec_len};
+ghost use Rattle.laws.specs.Bounds.{max_qubits};
 ghost use Rattle.pfaffian.specs.Shot.{bit};
 ghost use Rattle.queries.specs.Lists.{bad_place, odd_mode, bits_ok, bit_listed, mode_listed, stop_place, conflicts_of, noted, passing};
 ghost use Rattle.queries.specs.Inner.{Odd, Asked, Says, mark_of};
 
+use arrayvec::ArrayVec;
+use laws::MAX_QUBITS;
 use state::{Checked, Refusal};
 
 // What a list of qubits with their bits says as a whole.
@@ -93,18 +98,19 @@ pub fn note_bits(
     Ok(Noted::Agreeing)
 }
 
-// The modes below n that pass a test, ascending, in the first places of the list; their number.
-pub fn list_modes<F: Fn(usize) -> bool>(n: usize, left: F, list: &mut [usize]) -> usize
-    requires room { n ≤ length list.old }
+// The modes below n that pass a test, ascending.
+pub fn list_modes<F: Fn(usize) -> bool>(n: usize, left: F) -> ArrayVec<usize, MAX_QUBITS>
+    requires room { n ≤ max_qubits }
     requires callable { (k : ℕ) → k < n → F.pre left k }
-    ensures fits { result ≤ n }
+    ensures fits { array_vec_len result ≤ n }
     ensures modes { (p : ℕ → Bool) → ((k : ℕ) (b : Bool) → k < n → F.post left k b → b ≡ p k)
-        → take result list.new ≡ passing p n }
+        → result.items ≡ passing p n }
 {
-    let mut count = 0;
+    let mut list = ArrayVec::new();
     for k in 0..n {
-        list[count] = k;
-        count += usize::from(left(k));
+        if left(k) {
+            list.push(k);
+        }
     }
-    count
+    list
 }

@@ -10,6 +10,7 @@ ghost use Rattle.queries.specs.Inner.{mark_at};
 use super::lists::{Noted, check_bits, list_modes, note_bits};
 use super::matrices::{ask, pfaffian_cleared};
 use laws::MAX_QUBITS;
+use real::Square;
 use state::{Checked, Refusal};
 
 // The modes asked for a one are odd in number.
@@ -48,14 +49,14 @@ pub fn marked_probability(
         checked.entry.n (mark_at asked.now) work.old }
     ensures work { work.new ≡ marked_work checked.entry.n (mark_at asked.now) work.old }
 {
-    let mut list = [0; MAX_QUBITS];
-    let count = list_modes(checked.n, |k| asked[k].is_some(), &mut list);
-    let dim = 2 * count;
+    let list = list_modes(checked.n, |k| asked[k].is_some());
+    let dim = 2 * list.len();
     if work.len() < dim * dim {
         return Err(Refusal::SmallWork);
     }
-    ask(checked, &list[..count], asked, work);
-    let x = pfaffian_cleared(work, dim);
+    let mut m = Square { entries: work, dim };
+    ask(checked, list.as_slice(), asked, &mut m);
+    let x = pfaffian_cleared(&mut m);
     Ok(at_least_zero(sign(asked) * x))
 }
 

@@ -1,10 +1,13 @@
-// The covariance of the modes left, read from the state into work, and the Pfaffian of what stands there.
+// The covariance of the modes left, read from the state into work, and the Pfaffian of what stands there. The list of modes comes with the fact that they are
+// below a bound (`Below`): the bound is n in one function and the length of another list in the next, so that a struct would need an equation in its place.
+// State and matrix are two values: one is read, the other written. How many rows the matrix has (`rows`) is asked with each list, since it is that list's.
 
 ghost use Rattle.std.specs.Prelude.{◌≡◌, ◌+◌, ◌*◌, ◌/◌, ◌≤◌, ◌<◌, map, length, get_or};
 ghost use Rattle.std.specs.Float.{binary64};
 ghost use Rattle.std.specs.Float.Ieee.{mul};
-ghost use Rattle.laws.specs.Matrix.{at, matrix, Inside, Holds};
+ghost use Rattle.laws.specs.Matrix.{matrix};
 ghost use Rattle.laws.specs.Bounds.{max_qubits};
+ghost use Rattle.real.specs.Squares.{cells, Becomes};
 ghost use Rattle.pfaffian.specs.Pfaffian.{pfaffian_of};
 ghost use Rattle.pfaffian.specs.Shot.{half};
 ghost use Rattle.queries.specs.Products.{index_of, restricted};
@@ -12,7 +15,7 @@ ghost use Rattle.queries.specs.Marginals.{half_spin_of, asked_matrix};
 ghost use Rattle.queries.specs.Calls.{covariance_of, cleared};
 ghost use Rattle.queries.specs.Inner.{mark_of, mark_at, Below, row_laid, pair_shifted, pairs_shifted};
 
-use real::{entry, put};
+use real::Square;
 use state::Checked;
 
 // The state's row that is row r of the modes' matrix.
@@ -25,34 +28,34 @@ fn index(list: &[usize], r: usize) -> usize
 }
 
 // Row r of the modes' matrix, the two columns of a mode at once.
-fn restrict_row(checked: Checked, list: &[usize], work: &mut [f64], r: usize)
+fn restrict_row(checked: Checked, list: &[usize], m: &mut Square, r: usize)
     requires below { Below checked.n list.now }
-    requires inside { Inside work.old (2 * length list.now) r r }
-    ensures { work.new ≡ row_laid (2 * length list.now) r
+    requires rows { m.old.dim ≡ 2 * length list.now }
+    requires row { r < m.old.dim }
+    ensures { Becomes m.old m.new (row_laid m.old.dim r
         (restricted (covariance_of checked.entry.n checked.entry.state.now) list.now)
-        work.old }
+        m.old.entries.now) }
 {
-    let width = 2 * list.len();
     let x = index(list, r);
     for j in 0..list.len() {
         let y = index(list, 2 * j);
         let v = checked.get(x, y);
         let w = checked.get(x, y + 1);
-        put(work, width, r, 2 * j, v);
-        put(work, width, r, 2 * j + 1, w);
+        m.put(r, 2 * j, v);
+        m.put(r, 2 * j + 1, w);
     }
 }
 
 // The modes' matrix: their rows and columns of the covariance.
-pub fn restrict(checked: Checked, list: &[usize], work: &mut [f64])
+pub fn restrict(checked: Checked, list: &[usize], m: &mut Square)
     requires below { Below checked.n list.now }
-    requires room { 2 * length list.now * (2 * length list.now) ≤ length work.old }
-    ensures { work.new ≡ matrix (2 * length list.now)
+    requires rows { m.old.dim ≡ 2 * length list.now }
+    ensures { Becomes m.old m.new (matrix m.old.dim
         (restricted (covariance_of checked.entry.n checked.entry.state.now) list.now)
-        work.old }
+        m.old.entries.now) }
 {
-    for r in 0..2 * list.len() {
-        restrict_row(checked, list, work, r);
+    for r in 0..m.dim {
+        restrict_row(checked, list, m, r);
     }
 }
 
@@ -73,51 +76,57 @@ fn half_spin(asked: Option<bool>) -> f64
 }
 
 // The pair of entries at a and a + 1.
-fn shift_pair(work: &mut [f64], dim: usize, a: usize, s: f64)
-    requires { Holds work.old dim a 2 }
-    ensures { work.new ≡ pair_shifted dim a s work.old }
+fn shift_pair(m: &mut Square, a: usize, s: f64)
+    requires { a + 2 ≤ m.old.dim }
+    ensures { Becomes m.old m.new (pair_shifted m.old.dim a s m.old.entries.now) }
 {
-    let x = entry(work, dim, a, a + 1);
-    let y = entry(work, dim, a + 1, a);
-    put(work, dim, a, a + 1, x + s);
-    put(work, dim, a + 1, a, y - s);
+    let x = m.entry(a, a + 1);
+    let y = m.entry(a + 1, a);
+    m.put(a, a + 1, x + s);
+    m.put(a + 1, a, y - s);
 }
 
 // Every pair, by what is asked of its mode.
-fn shift_pairs(work: &mut [f64], list: &[usize], asked: &[Option<bool>])
-    requires room { 2 * length list.now * (2 * length list.now) ≤ length work.old }
+fn shift_pairs(m: &mut Square, list: &[usize], asked: &[Option<bool>])
+    requires rows { m.old.dim ≡ 2 * length list.now }
     requires below { Below (length asked.now) list.now }
-    ensures { work.new ≡ pairs_shifted (2 * length list.now) asked.now list.now work.old }
+    ensures { Becomes m.old m.new (pairs_shifted m.old.dim asked.now list.now m.old.entries.now) }
 {
-    let dim = 2 * list.len();
     for j in 0..list.len() {
         let s = half_spin(asked[list[j]]);
-        shift_pair(work, dim, 2 * j, s);
+        shift_pair(m, 2 * j, s);
     }
 }
 
 // The matrix of a marginal.
-pub fn ask(checked: Checked, list: &[usize], asked: &[Option<bool>], work: &mut [f64])
+pub fn ask(checked: Checked, list: &[usize], asked: &[Option<bool>], m: &mut Square)
     requires below { Below checked.n list.now }
     requires asked { Below (length asked.now) list.now }
-    requires room { 2 * length list.now * (2 * length list.now) ≤ length work.old }
-    ensures { work.new ≡ matrix (2 * length list.now)
+    requires rows { m.old.dim ≡ 2 * length list.now }
+    ensures { Becomes m.old m.new (matrix m.old.dim
         (asked_matrix (covariance_of checked.entry.n checked.entry.state.now) (mark_at asked.now) list.now)
-        work.old }
+        m.old.entries.now) }
 {
-    let dim = 2 * list.len();
-    restrict(checked, list, work);
-    halve(&mut work[..dim * dim]);
-    shift_pairs(work, list, asked);
+    restrict(checked, list, m);
+    let places = m.dim * m.dim;
+    halve(&mut m.entries[..places]);
+    shift_pairs(m, list, asked);
+}
+
+// Every entry is zero.
+pub fn clear(m: &mut Square)
+    ensures { Becomes m.old m.new (cleared m.old.dim m.old.entries.now) }
+{
+    let places = m.dim * m.dim;
+    m.entries[..places].fill(0.0);
 }
 
 // The Pfaffian of the matrix in work, which is then zero.
-pub fn pfaffian_cleared(work: &mut [f64], dim: usize) -> f64
-    requires { dim * dim ≤ length work.old }
-    ensures value { result ≡ pfaffian_of dim (at dim work.old) }
-    ensures work { work.new ≡ cleared dim work.old }
+pub fn pfaffian_cleared(m: &mut Square) -> f64
+    ensures value { result ≡ pfaffian_of m.old.dim (cells m.old) }
+    ensures work { Becomes m.old m.new (cleared m.old.dim m.old.entries.now) }
 {
-    let x = pfaffian::pfaffian(work, dim);
-    work[..dim * dim].fill(0.0);
+    let x = pfaffian::pfaffian(m);
+    clear(m);
     x
 }

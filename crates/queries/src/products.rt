@@ -9,9 +9,10 @@ ghost use Rattle.queries.specs.Calls.{expectation_z_product_of, expectation_z_pr
 use super::lists::{list_modes, mark_odd};
 use super::matrices::{pfaffian_cleared, restrict};
 use laws::MAX_QUBITS;
+use real::Square;
 use state::{Checked, Refusal};
 
-// The product over the marked modes: question 20.
+// The product over the marked modes: question 20. Marks have a place for each mode that there can be; the first n count.
 fn product_marked(checked: Checked, odd: &[bool], work: &mut [f64]) -> Result<f64, Refusal>
     requires { checked.n ≤ length odd.now }
     ensures answer { let left = passing (λ k. get_or odd.now k false) checked.entry.n in
@@ -19,14 +20,14 @@ fn product_marked(checked: Checked, odd: &[bool], work: &mut [f64]) -> Result<f6
         ≡ product_answer (covariance_of checked.entry.n checked.entry.state.now) left work.old }
     ensures work { work.new ≡ product_work (passing (λ k. get_or odd.now k false) checked.entry.n) work.old }
 {
-    let mut list = [0; MAX_QUBITS];
-    let count = list_modes(checked.n, |k| odd[k], &mut list);
-    let dim = 2 * count;
+    let list = list_modes(checked.n, |k| odd[k]);
+    let dim = 2 * list.len();
     if work.len() < dim * dim {
         return Err(Refusal::SmallWork);
     }
-    restrict(checked, &list[..count], work);
-    Ok(pfaffian_cleared(work, dim))
+    let mut m = Square { entries: work, dim };
+    restrict(checked, list.as_slice(), &mut m);
+    Ok(pfaffian_cleared(&mut m))
 }
 
 // The product of Z over the listed qubits: questions 16, 19 and 20. A qubit listed twice cancels.

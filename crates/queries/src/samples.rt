@@ -1,8 +1,9 @@
 // Shots of every qubit.
 
 ghost use Rattle.std.specs.Prelude.{◌≡◌, ◌+◌, ◌*◌, ◌≤◌, ◌<◌, length, MatchResult};
-ghost use Rattle.laws.specs.Matrix.{matrix, Inside};
-ghost use Rattle.pfaffian.specs.Work.{Kept};
+ghost use Rattle.laws.specs.Matrix.{matrix};
+ghost use Rattle.real.specs.Squares.{Becomes};
+ghost use Rattle.pfaffian.specs.Work.{Works};
 ghost use Rattle.local.specs.State.{state_at, get};
 ghost use Rattle.state.specs.Answers.{done};
 ghost use Rattle.state.specs.Parts.{HasEntry};
@@ -10,35 +11,35 @@ ghost use Rattle.queries.specs.Samples.{draw_ok_of, bad_draw_of, sampled};
 ghost use Rattle.queries.specs.Calls.{covariance_of, shots_of, shots_out, sample_of, sample_work, sample_out};
 ghost use Rattle.queries.specs.Inner.{row_laid};
 
+use super::matrices::clear;
 use pfaffian::shot;
-use real::{entry, put};
+use real::{Square, entry};
 use state::{Checked, Refusal};
 
 const MAX_SHOTS: usize = 65536;
 
 // Row r of the covariance. Beside `restrict_row`: a whole row needs no list, and is read in order with its own sign once.
-fn copy_row(state: &[f64], work: &mut [f64], dim: usize, r: usize)
-    requires has_entry { HasEntry state.now dim r r }
-    requires inside { Inside work.old dim r r }
-    ensures { work.new ≡ row_laid dim r (get (state_at dim state.now)) work.old }
+fn copy_row(state: &[f64], m: &mut Square, r: usize)
+    requires { HasEntry state.now m.old.dim r r }
+    ensures { Becomes m.old m.new (row_laid m.old.dim r (get (state_at m.old.dim state.now)) m.old.entries.now) }
 {
+    let dim = m.dim;
     let signs = dim * dim;
     let d = state[signs + r];
     for c in 0..dim {
         let x = entry(state, dim, r, c);
-        put(work, dim, r, c, x * d * state[signs + c]);
+        m.put(r, c, x * d * state[signs + c]);
     }
 }
 
-// The covariance with its signs, in work.
-fn copy_covariance(checked: Checked, work: &mut [f64])
-    requires { 2 * checked.n * (2 * checked.n) ≤ length work.old }
-    ensures { work.new ≡ matrix (2 * checked.entry.n)
-        (covariance_of checked.entry.n checked.entry.state.now) work.old }
+// The covariance with its signs, in work. The matrix has two rows for each mode (`rows`): an equation between two values, a fact of neither.
+fn copy_covariance(checked: Checked, m: &mut Square)
+    requires { m.old.dim ≡ 2 * checked.n }
+    ensures { Becomes m.old m.new (matrix m.old.dim
+        (covariance_of checked.entry.n checked.entry.state.now) m.old.entries.now) }
 {
-    let dim = 2 * checked.n;
-    for r in 0..dim {
-        copy_row(checked.state, work, dim, r);
+    for r in 0..m.dim {
+        copy_row(checked.state, m, r);
     }
 }
 
@@ -63,18 +64,18 @@ fn check_draws(draws: &[f64]) -> Result<(), Refusal>
     Ok(())
 }
 
-// All shots, each from the covariance anew, with its two words at its place of the output.
-fn take_shots(checked: Checked, shots: usize, draws: &[f64], work: &mut [f64], out: &mut [u64])
-    requires work_room { 2 * checked.n * (2 * checked.n) ≤ length work.old }
+// All shots, each from the covariance anew, with its two words at its place of the output. Draws and output are C's, and may be longer than what is used.
+fn take_shots(checked: Checked, shots: usize, draws: &[f64], m: &mut Square, out: &mut [u64])
+    requires rows { m.old.dim ≡ 2 * checked.n }
     requires shots_in_bounds { (checked.n * shots ≤ length draws.now) × (2 * shots ≤ length out.old) }
     ensures out { out.new ≡ sampled (covariance_of checked.entry.n checked.entry.state.now)
         checked.entry.n checked.entry.modes.now shots draws.now out.old }
-    ensures kept { Kept (2 * checked.entry.n) work.old work.new }
+    ensures kept { Works m.old m.new }
 {
     let n = checked.n;
     for i in 0..shots {
-        copy_covariance(checked, work);
-        let w = shot(work, n, &draws[i * n..], checked.modes);
+        copy_covariance(checked, m);
+        let w = shot(m, n, &draws[i * n..], checked.modes);
         out[2 * i] = w.low;
         out[2 * i + 1] = w.high;
     }
@@ -85,14 +86,14 @@ fn sample_worked(
     checked: Checked,
     shots: usize,
     draws: &[f64],
-    work: &mut [f64],
+    m: &mut Square,
     out: &mut [u64],
 ) -> Result<(), Refusal>
-    requires { 2 * checked.n * (2 * checked.n) ≤ length work.old }
+    requires { m.old.dim ≡ 2 * checked.n }
     ensures answer { done result ≡ shots_of checked.entry.n shots draws.now out.old }
     ensures out { out.new ≡ shots_out (covariance_of checked.entry.n checked.entry.state.now)
         checked.entry.n checked.entry.modes.now shots draws.now out.old }
-    ensures kept { Kept (2 * checked.entry.n) work.old work.new }
+    ensures kept { Works m.old m.new }
 {
     if shots > MAX_SHOTS {
         return Err(Refusal::BadShots);
@@ -102,7 +103,7 @@ fn sample_worked(
         return Err(Refusal::BadShots);
     }
     check_draws(&draws[..used])?;
-    take_shots(checked, shots, draws, work, out);
+    take_shots(checked, shots, draws, m, out);
     Ok(())
 }
 
@@ -127,7 +128,8 @@ pub fn sample(
     if work.len() < dim * dim {
         return Err(Refusal::SmallWork);
     }
-    let answer = sample_worked(checked, shots, draws, work, out);
-    work[..dim * dim].fill(0.0);
+    let mut m = Square { entries: work, dim };
+    let answer = sample_worked(checked, shots, draws, &mut m, out);
+    clear(&mut m);
     answer
 }

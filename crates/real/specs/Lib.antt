@@ -1,2 +1,3 @@
--- What the contracts of `real` and of the crates above say of maps. Definitions only.
+-- What the contracts of `real` and of the crates above say of maps and matrices. Definitions only.
 pub mod Maps
+pub mod Squares

@@ -1,25 +1,21 @@
 -- A permutation has an inverse: every mode below n is the mode of a qubit below n, which `qubit_at` finds. By counting: n different numbers below n
 -- leave none out. And a table of n modes below n that leaves none out is a permutation. Assumes nothing.
-use Rattle.std.proofs.Common.{◌≡◌, ℕ, zero, suc, ◌<◌, ◌≤◌, true, not, eqb, ◌≢◌, ◌⊎◌, List, sym, refl, ap, ◌∙◌, inl, inr, suc-le-suc, zero-le, le_refl, not-suc-le-zero, arith, lt-ltb, eq-eqb, ne_eqb, eqb-true}
+use mathlib.Core.Logic.{⊎_elim}
+use Rattle.std.proofs.Common.{◌≡◌, ℕ, zero, suc, ◌<◌, ◌≤◌, true, eqb, ◌≢◌, ◌⊎◌, List, sym, refl, ap, ◌∙◌, inl, inr, suc-le-suc, zero-le, le_refl, not-suc-le-zero, arith, eq-eqb, eqb-true}
 use mathlib.Core.Bool.{false≢true}
 use Rattle.laws.specs.Tables.{exchanged, mode_at}
 use Rattle.laws.specs.Tests.{all_below}
 use Rattle.laws.specs.Views.{seek}
-use Rattle.laws.proofs.Tests.{all_of}
-use Rattle.laws.proofs.Cases.{lt-or-le, eq-or-ne}
+use Rattle.std.proofs.lemmas.Bool.{cases_lt, cases_eq}
 use Rattle.laws.proofs.Tables.{exchanged-first, exchanged-second, exchanged-away, exchanged-twice, exchanged-below}
 use Rattle.laws.proofs.Views.{seek-fails, seek-passes, seek-gap}
 use Rattle.state.specs.Modes.{mode_ok, is_permutation, qubit_at}
-use Rattle.state.proofs.Permutations.{mode-below, mode-one}
+use Rattle.state.proofs.Permutations.{modes-fit, mode-below, mode-one}
 
 -- ---- counting
 
 not_last : (a b : ℕ) → a < suc b → a ≢ b → a < b
-not_last a b h ne = by (lt-or-le a b)
-  where
-    by : (a < b) ⊎ (b ≤ a) → a < b
-    by (inl x) = x
-    by (inr x) = absurd (ne (omega arith))
+not_last a b h ne = ⊎_elim (λ x. x) (λ x. absurd (ne (omega arith))) (cases_lt a b)
 
 -- f takes the numbers below m to different numbers below n
 record Into (m n : ℕ) (f : ℕ → ℕ) : Type 0 where
@@ -36,7 +32,7 @@ module _ (a b : ℕ) (f : ℕ → ℕ) where
 -- f with its last value put out of the way
 shorter : (m n : ℕ) (f : ℕ → ℕ) → Into (suc m) (suc n) f → Into m n (λ i. exchanged n (f m) (f i))
 shorter m n f w = record {
-  below = λ i h. by i h (eq-or-ne (f i) n);
+  below = λ i h. by i h (cases_eq (f i) n);
   one = exchanged-one n (f m) f m (λ i j h g e. w.one i j (omega arith) (omega arith) e);
 }
   where
@@ -69,7 +65,7 @@ all-met (suc n) k f w h ne =
     low : (i : ℕ) → i < suc n → exchanged k n (f i) < n
     low i g =
         let b : exchanged k n (f i) < suc n = exchanged-below k n (suc n) (f i) h (le_refl (suc n)) (w.below i g) in
-        by (eq-or-ne (exchanged k n (f i)) n) b
+        by (cases_eq (exchanged k n (f i)) n) b
       where
         by : (exchanged k n (f i) ≡ n) ⊎ (exchanged k n (f i) ≢ n) → exchanged k n (f i) < suc n → exchanged k n (f i) < n
         by (inl e) b = absurd (ne i g (sym (exchanged-twice k n (f i)) ∙ ap (exchanged k n) e ∙ exchanged-second k n))
@@ -110,7 +106,7 @@ module _ (n : ℕ) (l : List ℕ) (p : is_permutation n l ≡ true) (k : ℕ) (h
 
 module _ (n : ℕ) (l : List ℕ) (met : (k : ℕ) → k < n → ((q : ℕ) → q < n → mode_at l q ≢ k) → ⊥) (below : (q : ℕ) → q < n → mode_at l q < n) where
   back : (r : ℕ) → r < n → qubit_at n l (mode_at l r) ≡ r
-  back r h = by (eq-or-ne (qubit_at n l (mode_at l r)) r)
+  back r h = by (cases_eq (qubit_at n l (mode_at l r)) r)
     where
       into : Into n n (qubit_at n l)
       into = record {
@@ -125,10 +121,7 @@ module _ (n : ℕ) (l : List ℕ) (met : (k : ℕ) → k < n → ((q : ℕ) → 
           (λ k g e. ne (ap (qubit_at n l) (ap (mode_at l) (sym e) ∙ met-mode n l k (met k g)) ∙ e)))
 
   pub every-met : all_below (mode_ok n l) n ≡ true
-  every-met = all_of (mode_ok n l) n
-      (λ q h. rw (lt-ltb (mode_at l q) n (below q h))
-      (all_of (λ p. not (eqb (mode_at l p) (mode_at l q))) q
-      (λ p g. ap not (ne_eqb (mode_at l p) (mode_at l q) (apart p q g h)))))
+  every-met = modes-fit n l below apart
     where
       apart : (p q : ℕ) → p < q → q < n → mode_at l p ≢ mode_at l q
       apart p q g h e =

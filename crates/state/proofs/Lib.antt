@@ -10,3 +10,4 @@ pub mod Questions
 pub mod Pairs
 mod Examples
 pub mod Fills
+pub mod Apart

@@ -1,9 +1,10 @@
 -- The modes of all qubits marked: every number below n is marked exactly if they are a permutation. Assumes nothing.
+use Rattle.std.proofs.lemmas.Bool.{and_parts}
 use Rattle.std.proofs.Common.{◌≡◌, ℕ, ◌<◌, ◌≤◌, Bool, true, false, not, eqb, ltb, ◌≢◌, List, length, get_or, sym, refl, ap, ◌∙◌, arith, eq-eqb, ne_eqb, le-leb}
 use mathlib.Core.Bool.{false≢true}
 use Rattle.laws.specs.Tables.{mode_at}
 use Rattle.laws.specs.Tests.{all_below}
-use Rattle.laws.proofs.Tests.{and_left, all-each, all_of, all-fails}
+use Rattle.laws.proofs.Tests.{all-each, all_of, all-fails}
 use Rattle.state.specs.Modes.{unused, mode_ok, is_permutation}
 use Rattle.state.specs.Parts.{Marked}
 use Rattle.state.proofs.Inverse.{every-met, qubit-below, qubit-mode}
@@ -40,4 +41,4 @@ not-below n l e = by _ refl
     by false f = refl
     by true f =
         absurd (false≢true (sym e
-        ∙ all_of (λ q. ltb (mode_at l q) n) n (λ q h. and_left (ltb (mode_at l q) n) (unused l q (mode_at l q)) (all-each (mode_ok n l) n q (sym f) h))))
+        ∙ all_of (λ q. ltb (mode_at l q) n) n (λ q h. (and_parts (ltb (mode_at l q) n) (unused l q (mode_at l q)) (all-each (mode_ok n l) n q (sym f) h)).0)))

@@ -1,14 +1,14 @@
 -- Laws of the vacuum: a turn of the loop that writes its pairs, and the whole state in the slice. Assumes nothing.
-use Rattle.std.proofs.Common.{◌≡◌, ℕ, ◌+◌, ◌*◌, ◌/◌, ◌%◌, ◌<◌, ◌≤◌, false, cond, ◌&&◌, eqb, ◌≢◌, ◌⊎◌, List, length, get_or, take, drop, set, sym, ap, ◌∙◌, inl, inr, le_of_eq, arith, length-drop, length-set, length-take-le, eq-eqb, ne_eqb}
+use Rattle.laws.proofs.Pairs.{pairs-more}
+use Rattle.laws.proofs.Tests.{no-pair}
+use Rattle.std.proofs.Common.{◌≡◌, ℕ, ◌+◌, ◌*◌, ◌/◌, ◌%◌, ◌<◌, ◌≤◌, cond, ◌&&◌, eqb, ◌≢◌, List, length, get_or, take, drop, set, refl, sym, ap, ◌∙◌, arith, length-drop, length-take-le, eq-eqb, ne_eqb}
 use lib.Ieee.{Float, nan, neg}
 use Rattle.laws.specs.Zeros.{+0, +1}
 use Rattle.laws.specs.Slices.{on_part, filled}
 use Rattle.laws.specs.Matrix.{Mat, at, matrix, Is}
 use Rattle.laws.specs.Loops.{up_to}
-use Rattle.laws.proofs.Cases.{eq-or-ne}
 use Rattle.laws.proofs.Slices.{length-put, put-before, put-inside, put-after, length-mapped, mapped-done, mapped-left}
-use Rattle.laws.proofs.Matrix.{place_in, matrix-is, at_set_same, at_set_other, after-set}
-use Rattle.laws.proofs.Loops.{more, up_left}
+use Rattle.laws.proofs.Matrix.{place_in, matrix-is}
 use Rattle.local.specs.Bounds.{state_places}
 use Rattle.local.specs.State.{vacuum, stored}
 use Rattle.local.proofs.Stored.{is-stored}
@@ -27,14 +27,7 @@ module _ (f : Mat) where
 
   pair-none : (r c : ℕ) → (r % 2 ≡ 0 → c ≢ r + 1) → (c % 2 ≡ 0 → r ≢ c + 1) → pair_up_of f r c ≡ f r c
   pair-none r c h g =
-      rw (test r c h, test c r g)
-    where
-      test : (r c : ℕ) → (r % 2 ≡ 0 → c ≢ r + 1) → eqb (r % 2) 0 && eqb c (r + 1) ≡ false
-      test r c h = by (eq-or-ne (r % 2) 0)
-        where
-          by : (r % 2 ≡ 0) ⊎ (r % 2 ≢ 0) → eqb (r % 2) 0 && eqb c (r + 1) ≡ false
-          by (inl e) = rw (eq-eqb (r % 2) 0 e, ne_eqb c (r + 1) (h e))
-          by (inr e) = rw (ne_eqb (r % 2) 0 e)
+      rw (no-pair r c h, no-pair c r g)
 
 -- ---- a turn writes the pair of mode n
 
@@ -47,54 +40,11 @@ Paired dim m₀ n m = Is dim m₀ (up_to by_mode n (pair_up_of (at dim m₀)) (a
 
 pub pair-more : (dim n : ℕ) (m₀ m m₁ m₂ : List Float) → 2 * n + 1 < dim → dim * dim ≤ length m₀ → Paired dim m₀ n m
     → m₁ ≡ set m (2 * n * dim + (2 * n + 1)) +1 → m₂ ≡ set m₁ ((2 * n + 1) * dim + 2 * n) (neg +1) → Paired dim m₀ (n + 1) m₂
-pair-more dim n m₀ m m₁ m₂ h room w e₁ e₂ = more by_mode _ _ dim n m₀ m m₂ w (l₂ ∙ l₁) after other own
-  where
-    a : 2 * n < dim
-    a = omega arith
-
-    l₁ : length m₁ ≡ length m
-    l₁ = rw e₁ (length-set m (2 * n * dim + (2 * n + 1)) +1)
-
-    l₂ : length m₂ ≡ length m₁
-    l₂ = rw e₂ (length-set m₁ ((2 * n + 1) * dim + 2 * n) (neg +1))
-
-    after : (i : ℕ) → dim * dim ≤ i → get_or m₂ i nan ≡ get_or m i nan
-    after i b = rw e₂ (after-set dim (2 * n + 1) (2 * n) i m₁ _ h a b ∙ rw e₁ (after-set dim (2 * n) (2 * n + 1) i m _ a h b))
-
-    -- neither of the two
-    away : (r c : ℕ) → c < dim → (r ≡ 2 * n → c ≡ 2 * n + 1 → ⊥) → (r ≡ 2 * n + 1 → c ≡ 2 * n → ⊥) → at dim m₂ r c ≡ at dim m r c
-    away r c g x y =
-        rw e₂ (at_set_other dim (2 * n + 1) (2 * n) r c m₁ _ a g y ∙ rw e₁ (at_set_other dim (2 * n) (2 * n + 1) r c m _ h g x))
-
-    first : at dim m₂ (2 * n) (2 * n + 1) ≡ +1
-    first =
-        rw e₂
-        (at_set_other dim (2 * n + 1) (2 * n) (2 * n) (2 * n + 1) m₁ _ a h (λ x y. omega arith)
-        ∙ rw e₁ (at_set_same dim (2 * n) (2 * n + 1) m _ a h (omega (arith, w.long))))
-
-    second : at dim m₂ (2 * n + 1) (2 * n) ≡ neg +1
-    second = rw e₂ (at_set_same dim (2 * n + 1) (2 * n) m₁ _ h a (omega (arith, w.long, l₁)))
-
-    other : (r c : ℕ) → r < dim → c < dim → r / 2 ≢ n → at dim m₂ r c ≡ at dim m r c
-    other r c x g k = away r c g (λ y z. k (omega arith)) (λ y z. k (omega arith))
-
-    old : (r c : ℕ) → r < dim → c < dim → r / 2 ≡ n → at dim m r c ≡ at dim m₀ r c
-    old r c x g k = w.each r c x g ∙ up_left by_mode _ _ n r c (le_of_eq (sym k))
-
-    own : (r c : ℕ) → r < dim → c < dim → r / 2 ≡ n → at dim m₂ r c ≡ pair_up_of (at dim m₀) r c
-    own r c x g k = by (eq-or-ne r (2 * n)) (eq-or-ne c (2 * n)) (eq-or-ne c (2 * n + 1))
-      where
-        by : (r ≡ 2 * n) ⊎ (r ≢ 2 * n) → (c ≡ 2 * n) ⊎ (c ≢ 2 * n) → (c ≡ 2 * n + 1) ⊎ (c ≢ 2 * n + 1) → at dim m₂ r c ≡ pair_up_of (at dim m₀) r c
-        by (inl p) _ (inl q) = (λ t. at dim m₂ (p t) (q t)) ∙ first ∙ sym (pair-first (at dim m₀) r c (omega arith) (omega arith))
-        by (inl p) _ (inr q) =
-            away r c g (λ y z. q z) (λ y z. omega arith) ∙ old r c x g k
-            ∙ sym (pair-none (at dim m₀) r c (λ y z. q (omega arith)) (λ y z. omega arith))
-        by (inr p) (inl q) _ =
-            let o : r ≡ 2 * n + 1 = omega arith in
-            (λ t. at dim m₂ (o t) (q t)) ∙ second ∙ sym (pair-second (at dim m₀) r c (omega arith) (omega arith))
-        by (inr p) (inr q) _ =
-            away r c g (λ y z. p y) (λ y z. q z) ∙ old r c x g k
-            ∙ sym (pair-none (at dim m₀) r c (λ y z. omega arith) (λ y z. q (omega arith)))
+pair-more dim n m₀ m m₁ m₂ h room w e₁ e₂ =
+    let f = at dim m₀ in
+    pairs-more (pair_up_of f) dim m₀ n m m₁ m₂ +1 (neg +1) h room w e₁ e₂ (sym (pair-first f (2 * n) (2 * n + 1) (omega arith) refl))
+    (sym (pair-second f (2 * n + 1) (2 * n) (omega arith) refl))
+    (pair-none f)
 
 -- ---- the whole: the matrix cleared, the pairs, and the signs
 

@@ -1,8 +1,8 @@
 -- What the answer yes to question 16 gives a call. Assumes nothing.
+use Rattle.std.proofs.lemmas.Bool.{and_parts}
 use Rattle.std.proofs.Common.{◌≡◌, ℕ, ◌*◌, ◌≤◌, true, ◌&&◌, leb, List, length, le_trans, mul-le-mul_right, mul-le-mul_left, arith, leb-true}
 use lib.Ieee.{Float}
 use Rattle.laws.specs.Bounds.{max_qubits}
-use Rattle.laws.proofs.Tests.{and_left, and_right}
 use Rattle.local.specs.Bounds.{state_places}
 use Rattle.state.specs.Bounds.{dim_of}
 use Rattle.state.specs.Modes.{is_permutation}
@@ -18,10 +18,10 @@ unfolding state_ok
 asked n s modes e =
     let few = leb n max_qubits in
     let room = leb (state_places (dim_of n)) (length s) in
-    let rest = and_right few (room && is_permutation n modes) e in record {
-      few = leb-true n max_qubits (and_left few (room && is_permutation n modes) e);
-      room = leb-true (state_places (dim_of n)) (length s) (and_left room (is_permutation n modes) rest);
-      permutation = and_right room (is_permutation n modes) rest;
+    let rest = (and_parts few (room && is_permutation n modes) e).1 in record {
+      few = leb-true n max_qubits (and_parts few (room && is_permutation n modes) e).0;
+      room = leb-true (state_places (dim_of n)) (length s) (and_parts room (is_permutation n modes) rest).0;
+      permutation = (and_parts room (is_permutation n modes) rest).1;
     }
 
 -- few rows, so few places

@@ -1,5 +1,6 @@
 -- A whole number that an f64 holds, and an f64 equal to it: read as a mode, that one is the number. Assumes nothing.
-use Rattle.std.proofs.Common.{◌≡◌, ℕ, zero, suc, ◌+◌, ◌-◌, ◌*◌, ◌/◌, ◌^◌, ◌<◌, ◌≤◌, min, Bool, true, false, ◌&&◌, ◌||◌, T, eqb, Some, ◌⊎◌, ℤ, pos, sym, refl, ap, ◌∙◌, subst, inl, inr, ⊎_elim, lt_irrefl, zero-lt-suc, mul-lt-mul_of_pos_right, mul-pos, zero-mul, mul-one, mul_right_comm, mul-div_cancel, arith, eqb→eq, lt-ltb, eq-eqb}
+use Rattle.std.proofs.lemmas.Bool.{and_parts}
+use Rattle.std.proofs.Common.{◌≡◌, ℕ, zero, suc, ◌+◌, ◌-◌, ◌*◌, ◌/◌, ◌^◌, ◌<◌, ◌≤◌, min, Bool, true, false, ◌||◌, T, eqb, Some, ◌⊎◌, ℤ, pos, sym, refl, ap, ◌∙◌, subst, inl, inr, ⊎_elim, lt_irrefl, zero-lt-suc, mul-lt-mul_of_pos_right, mul-pos, zero-mul, mul-one, mul_right_comm, mul-div_cancel, arith, eqb→eq, lt-ltb, eq-eqb}
 use mathlib.Core.Bool.{beq, false≢true}
 use native.Mathlib.Nat.{eq_of_mul-eq-mul_right, min-eq_left}
 use lib.Ieee.{Float, nan, inf, fin, binary64, up, down, of_bits, of_int, to_unsigned, neg, lt, eq, round}
@@ -15,17 +16,13 @@ record Is (i : ℕ) (s : Bool) (m : ℕ) (e : ℤ) : Type 0 where
   size : m * up e ≡ i * down e
   sign : (s ≡ false) ⊎ (i ≡ 0)
 
-both : (a b : Bool) → a && b ≡ true → (a ≡ true) × (b ≡ true)
-both true b h = (refl, h)
-both false b h = absurd (false≢true h)
-
 -- the float of i is n * 2 ^ d
 level-is : (i : ℕ) (s : Bool) (n m : ℕ) (d e : ℤ) → n * up d ≡ i * down d → eq (fin false n d) (fin s m e) ≡ true → Is i s m e
 unfolding eq
 level-is i s n m d e v h =
     let a = n * up d * down e in
     let b = m * up e * down d in
-    let t = both (eqb a b) (beq false s || eqb a 0) h in
+    let t = and_parts (eqb a b) (beq false s || eqb a 0) h in
     let same : a ≡ b = eqb→eq a b (subst T (sym t.0) tt) in
     let size : m * up e ≡ i * down e =
     eq_of_mul-eq-mul_right (down d) (down_pos d) (m * up e) (i * down e) (sym same ∙ ap (λ (x : ℕ). x * down e) v ∙ mul_right_comm i (down d) (down e)) in

@@ -7,7 +7,7 @@ use lib.Bits.{bit_or, or_step, or_shr, or_lt, or_zero_r}
 use lib.Pow.{pow-lt, suc_ones, ones_lt, high, shl-shr}
 use Rattle.laws.specs.Tables.{mode_at}
 use Rattle.laws.specs.Tests.{all_below}
-use Rattle.laws.proofs.Cases.{lt-or-le, eq-or-ne}
+use Rattle.std.proofs.lemmas.Bool.{cases_lt, cases_eq}
 use Rattle.state.specs.Modes.{mode_ok, is_permutation}
 use Rattle.state.proofs.Inverse.{every-met, qubit-below, qubit-mode}
 
@@ -21,7 +21,7 @@ bit-or : (a b j : ℕ) → bit_or a b / 2 ^ j % 2 ≡ max (a / 2 ^ j % 2) (b / 2
 bit-or a b j = ap (λ x. x % 2) (or_shr a b j) ∙ odd (a / 2 ^ j) (b / 2 ^ j)
   where
     digit : (x y : ℕ) → x < 2 → y < 2 → max x y < 2
-    digit x y h g = by (lt-or-le x y)
+    digit x y h g = by (cases_lt x y)
       where
         by : (x < y) ⊎ (y ≤ x) → max x y < 2
         by (inl l) = let l' : x ≤ y = omega arith in rw (max-eq_right l') g
@@ -44,7 +44,7 @@ on-right a b j h =
     bit-or a b j ∙ max-eq_right g ∙ h
 
 pub on-either : (a b j : ℕ) → On (bit_or a b) j → On a j ⊎ On b j
-on-either a b j h = by (lt-or-le (a / 2 ^ j % 2) (b / 2 ^ j % 2))
+on-either a b j h = by (cases_lt (a / 2 ^ j % 2) (b / 2 ^ j % 2))
   where
     by : (a / 2 ^ j % 2 < b / 2 ^ j % 2) ⊎ (b / 2 ^ j % 2 ≤ a / 2 ^ j % 2) → On a j ⊎ On b j
     by (inl l) = let l' : a / 2 ^ j % 2 ≤ b / 2 ^ j % 2 = omega arith in inr (sym (max-eq_right l') ∙ sym (bit-or a b j) ∙ h)
@@ -58,7 +58,7 @@ on-own k = ap (λ x. x % 2) (ap (λ x. x / 2 ^ k) one ∙ shl-shr 1 k)
     one = omega arith
 
 pub on-only : (k j : ℕ) → On (2 ^ k) j → j ≡ k
-on-only k j h = by (lt-or-le k j) (lt-or-le j k)
+on-only k j h = by (cases_lt k j) (cases_lt j k)
   where
     low : k < j → 2 ^ k / 2 ^ j % 2 ≡ 0
     low l = ap (λ x. x % 2) (div-eq_of_lt (pow-lt l))
@@ -147,7 +147,7 @@ module _ (n : ℕ) (l : List ℕ) where
       u = bit_or a' b'
 
       each : (p : ℕ) (P : ℕ → Type 0) → p < q + 2 → ((p : ℕ) → p < q → P p) → P q → P (q + 1) → P p
-      each p P lt before here next = by (lt-or-le p q) (eq-or-ne p q)
+      each p P lt before here next = by (cases_lt p q) (cases_eq p q)
         where
           by : (p < q) ⊎ (q ≤ p) → (p ≡ q) ⊎ (p ≢ q) → P p
           by (inl g) _ = before p g
@@ -155,7 +155,7 @@ module _ (n : ℕ) (l : List ℕ) where
           by (inr g) (inr ne) = let z : p ≡ q + 1 = omega (arith, last p q g lt ne) in rw z next
             where
               last : (p q : ℕ) → q ≤ p → p < q + 2 → p ≢ q → p ≡ q + 1
-              last p q g lt ne = or (lt-or-le p (q + 1))
+              last p q g lt ne = or (cases_lt p (q + 1))
                 where
                   or : (p < q + 1) ⊎ (q + 1 ≤ p) → p ≡ q + 1
                   or (inl a) = absurd (ne (omega arith))
@@ -180,7 +180,7 @@ module _ (n : ℕ) (l : List ℕ) where
   -- all of them
   pub words-all : (a b : ℕ) → n ≤ length l → Words n l n a b → eqb (bit_or a b) (2 ^ n - 1) ≡ all_below (mode_ok n l) n
   unfolding is_permutation
-  words-all a b long w = by (eq-or-ne (bit_or a b) (2 ^ n - 1))
+  words-all a b long w = by (cases_eq (bit_or a b) (2 ^ n - 1))
     where
       bound : bit_or a b < 2 ^ n
       bound = or_lt n a b w.small.0 w.small.1

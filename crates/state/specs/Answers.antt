@@ -1,5 +1,5 @@
 -- The answers of the state calls: for every case of the code's enums the scope's number, its place, and the value. "A refusal's numbers are zero."
--- Definitions only. A public promise rests on this.
+-- No two answers are told alike (proofs/Apart.antt). Definitions only. A public promise rests on this.
 use Rattle.std.specs.Prelude.{ℕ, ⊤, Result, Ok, Err, Float}
 use Rattle.laws.specs.Zeros.{+0}
 use Rattle.state.specs.declared.answer.Refusal.{Refusal}

@@ -1,7 +1,9 @@
 // An operation applied to the state.
 
 ghost use Rattle.std.specs.Prelude.{◌≡◌};
-ghost use Rattle.state.specs.Operation.{decode_of, applied, Fits};
+ghost use Rattle.local.specs.Signed.{state_of, Holds};
+ghost use Rattle.state.specs.Bounds.{dim_of};
+ghost use Rattle.state.specs.Operation.{decode_of, effect, Fits};
 ghost use Rattle.state.specs.Answers.{done};
 ghost use Rattle.state.specs.Calls.{decoded_answer, decoded_state, apply_answer, apply_state};
 ghost use Rattle.state.specs.Parts.{HasState, HasHead};
@@ -10,17 +12,17 @@ use super::answer::Refusal;
 use super::check::check_state;
 use super::operation::{Operation, decode};
 use laws::OP_PLACES;
-use local::{apply_local2, apply_local4};
+use local::{Signed, apply_local2, apply_local4};
 
 // By its cases, to a state of n qubits.
-pub fn apply_operation(n: usize, state: &mut [f64], o: Operation)
-    requires has_state { HasState state.old n }
+fn apply_operation(t: &mut Signed, n: usize, o: Operation)
+    requires rows { t.old.dim ≡ dim_of n }
     requires fits { Fits n o }
-    ensures { state.new ≡ applied n o state.old }
+    ensures { Holds t.old t.new (effect o (state_of t.old)) }
 {
     match o {
-        Operation::One { mode, q } => apply_local2(state, n, mode, q),
-        Operation::Two { mode, q } => apply_local4(state, n, mode, q),
+        Operation::One { mode, q } => apply_local2(t, n, mode, q),
+        Operation::Two { mode, q } => apply_local4(t, mode, q),
         Operation::Interaction {
             mode: _,
             block: _,
@@ -45,7 +47,11 @@ pub fn apply_places(
     ensures state { state.new ≡ decoded_state n state.old (decode_of n op.now) }
 {
     let o = decode(n, kind, at, op).ok_or(Refusal::BadOperation)?;
-    apply_operation(n, state, o);
+    let mut t = Signed {
+        entries: state,
+        dim: 2 * n,
+    };
+    apply_operation(&mut t, n, o);
     Ok(())
 }
 

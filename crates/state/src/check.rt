@@ -24,7 +24,7 @@ pub fn mode_at(modes: &[u16], q: usize) -> usize
 }
 
 // Each entry is its own number, as in the table of a fresh state. The last is looked at first, which settles most other
-// tables; then all are, so that the compiler compares several at once.
+// tables; then all are, so that the compiler compares several at once. Few entries, here and below: their numbers fit a u16.
 fn is_identity(table: &[u16]) -> bool
     requires { length table.now ≤ max_qubits }
     ensures { result ≡ all_below (λ q. nat_eq (mode_at table.now q) q) (length table.now) }
@@ -147,6 +147,7 @@ fn is_permutation(n: usize, modes: &[u16]) -> bool
     if n <= WORD {
         return all_met(table);
     }
+    // a mark for each qubit that there can be: no heap
     let mut seen = [false; MAX_QUBITS];
     each_once(table, &mut seen)
 }

@@ -1,6 +1,7 @@
 // The state of the engine, 001's state.rs: the covariance m of the Majorana operators with its postponed
 // signs d, in one slice that the caller lends, and the calls on it. A public call asks nothing of its
-// caller: what is wrong with n, a slice or the mode table is a refusal.
+// caller: what is wrong with n, a slice or the mode table is a refusal. n, state and modes come one by one, as C hands them over; inside they are one value
+// for who reads, `Checked`, and the slice is one for who applies, `local::Signed`.
 
 #![tactic(auto)]
 

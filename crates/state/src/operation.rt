@@ -44,6 +44,7 @@ fn near(x: f64) -> usize
 }
 
 // The whole number from 0 and below n that x is, found by cutting off its fraction.
+#[tactic(auto, using(std::proofs::lemmas::Bool::Decides::nat_tests), unfolding(crate::specs::Operation::is_whole, crate::specs::Operation::mode_of))]
 fn mode_by_cut(x: f64, n: usize) -> Option<usize>
     ensures { result ≡ mode_of x n }
 {
@@ -70,7 +71,8 @@ pub fn mode_of(x: f64, n: usize) -> Option<usize>
     mode_by_cut(x, n)
 }
 
-// Two sizes, two functions, here and below: rows are structs of floats by value.
+// Two sizes, two functions, here and below: rows are structs of floats by value. A place in the slice, as in crate gate: a part cut out first would owe the
+// same bound.
 fn real2_at(s: &[f64], at: usize) -> Real2
     requires { at + 2 ≤ length s.now }
     ensures { result ≡ real2_of s.now at }

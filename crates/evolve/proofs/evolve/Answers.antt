@@ -1,74 +1,66 @@
--- `evolve::evolve` meets its contract: the invariant says that the slice holds what the operations passed make of the vacuum. Assumes nothing.
-use mathlib.Core.Path.{◌≡◌, refl, sym, ap, ◌∙◌}
-use mathlib.Core.List.{List}
-use Prim.Native.Nat.{ℕ, ◌+◌, ◌*◌, ◌-◌, ◌≤◌, ◌<◌}
-use native.Mathlib.Nat.{add-zero, add-sub_cancel_left, le_of_eq}
+-- `evolve::evolve` meets its contract: a chunk is the next operation of the slice, since the chunks to come and what lies past the program are the
+-- slice from there. Assumes nothing.
+use mathlib.Core.Path.{◌≡◌, sym, ap, ◌∙◌}
+use mathlib.Core.List.{List, [], ◌∷◌, ◌++◌, append_assoc}
+use Prim.Native.Nat.{ℕ, ◌+◌, ◌*◌}
 use native.Mathlib.Omega.{arith}
-use lib.ListN.{length, get_or, take, drop}
-use lib.Ieee.{Float, nan}
-use Rattle.laws.proofs.Slices.{part_at, part_length}
+use lib.ListN.{length, take, drop, length-append, length-take, take-append-drop}
+use lib.Seq.{take_at, drop_at, drop-drop}
+use lib.Ieee.{Float}
+use Rattle.laws.specs.Bounds.{op_places}
 use Rattle.local.specs.State.{stored, vacuum}
 use Rattle.state.specs.Bounds.{dim_of}
 use Rattle.state.specs.Operation.{decode_of}
 use Rattle.state.specs.Calls.{decoded_state}
 use Rattle.evolve.specs.Evolve.{evolved_in}
-use Rattle.evolve.proofs.Evolving.{evolve-more, stored-again, stored-then, stored-long}
+use Rattle.evolve.proofs.Evolving.{evolve-more}
 use Rattle.evolve.proofs.evolve.Goals as goal
 
-pub loop-i-init : goal.loop-i-init
+-- the chunk that comes is the next operation, and the others begin after it
+chunk : (k : ℕ) (op rest past ops : List Float) → length op ≡ op_places → (op ++ rest) ++ past ≡ drop (op_places * k) ops
+    → (take op_places (drop (op_places * k) ops) ≡ op) × (rest ++ past ≡ drop (op_places * (k + 1)) ops)
+chunk k op rest past ops long e =
+    let whole : op ++ (rest ++ past) ≡ drop (op_places * k) ops = sym (append_assoc op rest past) ∙ e in
+    let sum : op_places * k + op_places ≡ op_places * (k + 1) = omega arith in (
+      ap (take op_places) (sym whole) ∙ take_at op (rest ++ past) op_places long,
+      sym (drop_at op (rest ++ past) op_places long) ∙ ap (drop op_places) whole ∙ drop-drop op_places (op_places * k) ops ∙ ap (λ j. drop j ops) sum,
+    )
+
+pub loop-op-init : goal.loop-op-init
 unfolding evolved_in
-loop-i-init c =
-    let a = c.args in
-    let v = c.vacuum in
-    let long = stored-long (dim_of a.n) vacuum a.state.now v.new.state c.requires.has_state.room v.ensures in (
-      stored-again (dim_of a.n) vacuum a.state.now v.new.state c.requires.has_state.room v.ensures,
-      omega (arith, long, c.requires.has_state.room),
+loop-op-init c =
+    let made = c.into_iter-op-iterator.ensures.into_iter_gives in
+    let chunks = c.chunks_exact-op-items.ensures in
+    let rest : c.into_iter-op-iterator.result.rest.now ≡ take (op_places * c.args.count) c.args.ops.now = ap (λ s. s.rest.now) made ∙ chunks.rest in (
+      ap (λ s. s.size) made ∙ chunks.size,
+      omega (arith, ap length rest, length-take (op_places * c.args.count) c.args.ops.now, c.requires.count_in_bounds),
+      ap (λ m. m ++ drop (op_places * c.args.count) c.args.ops.now) rest ∙ take-append-drop (op_places * c.args.count) c.args.ops.now,
+      c.vacuum.ensures,
     )
 
--- a place of an operation's part is one of the program
-head : (p : ℕ) (ops : List Float) (j : ℕ) → j < 18 → (i : ℕ) → i ≡ p + j → get_or ops i nan ≡ get_or (take (p + 18 - p) (drop p ops)) j nan
-head p ops j h i e = rw (add-sub_cancel_left p 18, part_at p 18 ops nan j h, e)
-
-pub apply_places-answer-requires : goal.apply_places-answer-requires
-apply_places-answer-requires c =
-    let l = c.loop-i in
-    let p = 18 * l.i in
-    let fit : p + 18 ≤ length c.args.ops.now = omega (arith, c.requires.count_in_bounds) in
-    record {
-      has_state = record { room = omega (arith, stored-long (dim_of c.args.n) _ _ l.state l.invariant.1 l.invariant.0, l.invariant.1) };
-      has_head = record {
-        room = le_of_eq (sym (part_length p 18 c.args.ops.now fit));
-        first = head p c.args.ops.now 0 (omega arith) p (sym (add-zero p));
-        second = head p c.args.ops.now 1 (omega arith) (p + 1) refl;
-      };
-    }
-
-pub loop-i-preserved : goal.loop-i-preserved
-loop-i-preserved c =
-    let l = c.loop-i in
+pub loop-op-preserved : goal.loop-op-preserved
+loop-op-preserved c =
+    let l = c.loop-op in
     let a = c.args in
-    let s₀ = c.vacuum.new.state in
-    let p = 18 * l.i in
-    let part = ap (λ m. decoded_state a.n l.state (decode_of a.n (take m (drop p a.ops.now)))) (add-sub_cancel_left p 18) in (
-      c.apply_places-answer.ensures.state ∙ part ∙ evolve-more a.n l.i a.ops.now s₀ l.state l.invariant.1 l.invariant.0,
-      l.invariant.1,
+    let k = length l.yielded in
+    let step = c.in-Some.ensures.steps in
+    let op = c.in-Some.op.now in
+    let rest = c.next.new.self.rest.now in
+    let past = drop (op_places * a.count) a.ops.now in
+    let more : length (l.yielded ++ (c.in-Some.op ∷ [])) ≡ k + 1 = length-append l.yielded (c.in-Some.op ∷ []) in
+    let long : length op ≡ op_places = step.1.1 ∙ l.invariant.0 in
+    let at = chunk k op rest past a.ops.now long (ap (λ m. m ++ past) (sym step.1.0) ∙ l.invariant.2) in (
+      step.0 ∙ l.invariant.0,
+      omega (arith, more, long, l.invariant.1, ap length step.1.0, length-append op rest),
+      at.1 ∙ ap (λ j. drop (op_places * j) a.ops.now) (sym more),
+      c.apply_places-answer.ensures.state ∙ ap (λ m. decoded_state a.n l.state (decode_of a.n m)) (sym at.0)
+          ∙ evolve-more a.n k a.ops.now a.state.now l.state c.requires.has_state.room l.invariant.3
+          ∙ ap (λ j. stored (dim_of a.n) (evolved_in a.n j a.ops.now vacuum) a.state.now) (sym more),
     )
-
-pub shape_of-state : goal.shape_of-state
-shape_of-state c =
-    let l = c.loop-i in
-    let v = c.vacuum in
-    stored-long (dim_of c.args.n) _ v.new.state l.state l.invariant.1 l.invariant.0
-    ∙ stored-long (dim_of c.args.n) vacuum c.args.state.now v.new.state c.requires.has_state.room v.ensures
 
 pub returns : goal.returns
 returns c =
-    let l = c.loop-i in
+    let l = c.loop-op in
     let a = c.args in
-    let v = c.vacuum in
-    let last : l.i ≡ a.count = omega arith in
-    stored-then (dim_of a.n) vacuum (evolved_in a.n l.i a.ops.now vacuum) a.state.now v.new.state l.state c.requires.has_state.room v.ensures l.invariant.0
-    ∙ ap (λ k. stored (dim_of a.n) (evolved_in a.n k a.ops.now vacuum) a.state.now) last
-
-pub vacuum-requires : goal.vacuum-requires
-vacuum-requires c = c.requires.has_state
+    let last : length l.yielded ≡ a.count = omega (arith, l.invariant.0, l.invariant.1, c.in-None.ensures.steps.1.0) in
+    l.invariant.3 ∙ ap (λ j. stored (dim_of a.n) (evolved_in a.n j a.ops.now vacuum) a.state.now) last

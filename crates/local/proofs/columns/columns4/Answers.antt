@@ -6,18 +6,24 @@ use Rattle.laws.specs.Loops.{by_row}
 use Rattle.laws.proofs.Loops.{none, made}
 use Rattle.laws.proofs.Maps.{cols-more}
 use Rattle.real.specs.Maps.{local4}
+use Rattle.real.proofs.Squares.{same_here, same_then}
 use Rattle.local.proofs.columns.columns4.Goals as goal
 
 pub loop-r-init : goal.loop-r-init
-loop-r-init c = (search rules, none _ _ _ _ _ (λ r c h g. refl))
+loop-r-init c = (search rules, same_here _, none _ _ _ _ _ (λ r c h g. refl))
 
 pub loop-r-preserved : goal.loop-r-preserved
 loop-r-preserved c =
-    let l = c.loop-r in (
-      omega arith,
-      cols-more (local4 c.args.s c.args.q) c.args.dim l.r c.args.m.now l.m _ c.loop-r-test.true c.requires.band c.requires.room
-          l.invariant.1 c.map_row4.ensures,
+    let l = c.loop-r in
+    let m = c.args.m.now in
+    let e = c.map_row4.ensures in (
+      omega (arith, c.loop-r-test.true),
+      same_then _ _ _ l.invariant.1 e.same,
+      cols-more (local4 c.args.s c.args.q) m.dim l.r m.entries.now l.m.entries.now _ c.loop-r-test.true c.requires m.room
+          l.invariant.2 (rw l.invariant.1.dim at e.now),
     )
 
 pub returns : goal.returns
-returns c = made by_row _ _ _ _ _ _ (λ r c' h g. omega arith) c.loop-r.invariant.1
+returns c =
+    let l = c.loop-r in
+    record { same = l.invariant.1; now = made by_row _ _ _ _ _ _ (λ r c' h g. omega arith) l.invariant.2 }

@@ -9,23 +9,31 @@ use Rattle.laws.proofs.Maps.{rows_more}
 use Rattle.real.specs.Maps.{row4, local4}
 use Rattle.local.specs.Parts.{under4}
 use Rattle.local.proofs.Structs.{turn4}
+use Rattle.real.proofs.Squares.{same_here, same_then}
 use Rattle.local.proofs.rows.rows4.Goals as goal
 
 pub loop-c-init : goal.loop-c-init
-loop-c-init c = (search rules, none _ _ _ _ _ (λ r c h g. refl))
+loop-c-init c = (search rules, same_here _, none _ _ _ _ _ (λ r c h g. refl))
 
 pub loop-c-preserved : goal.loop-c-preserved
 loop-c-preserved c =
     let l = c.loop-c in
-    let put = put_column 4 c.args.dim c.args.s l.c in (
-      omega arith,
-      rows_more (local4 c.args.s c.args.q) c.args.dim l.c c.args.m.now l.m _ c.loop-c-test.true c.requires.band
-          c.requires.room l.invariant.1
-          (c.put_column4.ensures
-          ∙ (λ i. put (row4 (c.mapped4.ensures i)) l.m)
-          ∙ (λ i. put (row4 (under4 c.args.q (c.column4-v.ensures i))) l.m)
-          ∙ turn4 c.args.s c.args.dim l.c l.m c.args.q),
+    let m = c.args.m.now in
+    let a = l.m.entries.now in
+    let put = put_column 4 m.dim c.args.s l.c in
+    let is = l.invariant.1.dim in
+    let read = rw is at c.column4-v.ensures in (
+      omega (arith, c.loop-c-test.true),
+      same_then _ _ _ l.invariant.1 c.put_column4.ensures.same,
+      rows_more (local4 c.args.s c.args.q) m.dim l.c m.entries.now a _ c.loop-c-test.true c.requires
+          m.room l.invariant.2
+          (rw is at c.put_column4.ensures.now
+          ∙ (λ i. put (row4 (c.mapped4.ensures i)) a)
+          ∙ (λ i. put (row4 (under4 c.args.q (read i))) a)
+          ∙ turn4 c.args.s m.dim l.c a c.args.q),
     )
 
 pub returns : goal.returns
-returns c = made by_col _ _ _ _ _ _ (λ r c' h g. omega arith) c.loop-c.invariant.1
+returns c =
+    let l = c.loop-c in
+    record { same = l.invariant.1; now = made by_col _ _ _ _ _ _ (λ r c' h g. omega arith) l.invariant.2 }

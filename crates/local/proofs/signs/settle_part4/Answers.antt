@@ -1,28 +1,57 @@
 -- `local::signs::settle_part4` meets its contract, an entry after the other. Assumes nothing.
+use mathlib.Core.Path.{refl, sym}
 use Prim.Native.Nat.{◌+◌}
+use native.Mathlib.Nat.{add-zero}
 use native.Mathlib.Omega.{arith}
-use Rattle.local.proofs.Settling.{part-one, part-two, part-three, part-four, sign_kept}
+use Rattle.laws.proofs.Matrix.{is-matrix}
+use Rattle.local.proofs.Four.{Done, done_none, done-turned, done_kept}
 use Rattle.local.proofs.signs.settle_part4.Goals as goal
+use Rattle.local.proofs.signs.settle_part4.Goals.{then-below, else-below, then-below-2, else-below-2, then-below-3, else-below-3}
 
-pub settle_where-requires-2 : goal.settle_where-requires-2
-settle_where-requires-2 c =
-    let w = part-one c.args.dim c.args.r c.args.s c.args.state.now _ c.requires.r_lt_dim c.requires.has_band.band c.requires.has_band.room
-    c.settle_where.ensures in
-    record { has_sign = record { room = omega (arith, c.requires.has_band.room, w.long); row = omega (arith, c.requires.has_band.band) }; r_lt_dim = c.requires.r_lt_dim; below_value = sign_kept c.args.dim c.args.r c.args.s 1 (c.args.s + 1) _ _ _ w c.requires.below4.second }
+pub returns-then-below-4 : goal.returns-then-below-4
+returns-then-below-4 c =
+    let t = c.args.t.now in
+    let r = c.args.r in
+    let s = c.args.s in
+    let row = c.requires.row in
+    let fit = c.requires.columns in
+    let b = c.requires.below4 in
+    let start = done_none t r s row fit in
+    let one : Done t r s row fit 1 c.if-below.t = elim c.if-below.branch [
+      | then-below w ↦ rw w.t-is (done-turned t r s row fit 0 s c.args.below.x0 t _ (omega arith) (sym (add-zero s)) b.first start w.if-below.true w.negate.ensures)
+      | else-below w ↦ done_kept t r s row fit 0 s c.args.below.x0 t _ (omega arith) (sym (add-zero s)) b.first start w.if-below.false w.t-is
+    ] in
+    let two : Done t r s row fit 2 c.if-below-2.t = elim c.if-below-2.branch [
+      | then-below-2 w ↦ rw w.t-is (done-turned t r s row fit 1 (s + 1) c.args.below.x1 c.if-below.t _ (omega arith) refl b.second one w.if-below-2.true w.negate-then-below-2.ensures)
+      | else-below-2 w ↦ done_kept t r s row fit 1 (s + 1) c.args.below.x1 c.if-below.t _ (omega arith) refl b.second one w.if-below-2.false w.t-is
+    ] in
+    let three : Done t r s row fit 3 c.if-below-3.t = elim c.if-below-3.branch [
+      | then-below-3 w ↦ rw w.t-is (done-turned t r s row fit 2 (s + 2) c.args.below.x2 c.if-below-2.t _ (omega arith) refl b.third two w.if-below-3.true w.negate-then-below-3.ensures)
+      | else-below-3 w ↦ done_kept t r s row fit 2 (s + 2) c.args.below.x2 c.if-below-2.t _ (omega arith) refl b.third two w.if-below-3.false w.t-is
+    ] in
+    let four = done-turned t r s row fit 3 (s + 3) c.args.below.x3 c.if-below-3.t _ (omega arith) refl b.fourth three c.if-below-4.true c.negate-then-below-4.ensures in
+    record { same = four.same; now = is-matrix _ _ _ _ four.part }
 
-pub settle_where-requires-3 : goal.settle_where-requires-3
-settle_where-requires-3 c =
-    let w = part-two c.args.dim c.args.r c.args.s c.args.state.now _ c.requires.r_lt_dim c.requires.has_band.band c.requires.has_band.room
-    c.settle_where.ensures _ c.settle_where-2.ensures in
-    record { has_sign = record { room = omega (arith, c.requires.has_band.room, w.long); row = omega (arith, c.requires.has_band.band) }; r_lt_dim = c.requires.r_lt_dim; below_value = sign_kept c.args.dim c.args.r c.args.s 2 (c.args.s + 2) _ _ _ w c.requires.below4.third }
-
-pub settle_where-requires-4 : goal.settle_where-requires-4
-settle_where-requires-4 c =
-    let w = part-three c.args.dim c.args.r c.args.s c.args.state.now _ c.requires.r_lt_dim c.requires.has_band.band c.requires.has_band.room
-    c.settle_where.ensures _ _ c.settle_where-2.ensures c.settle_where-3.ensures in
-    record { has_sign = record { room = omega (arith, c.requires.has_band.room, w.long); row = omega (arith, c.requires.has_band.band) }; r_lt_dim = c.requires.r_lt_dim; below_value = sign_kept c.args.dim c.args.r c.args.s 3 (c.args.s + 3) _ _ _ w c.requires.below4.fourth }
-
-pub returns : goal.returns
-returns c =
-    part-four c.args.dim c.args.r c.args.s c.args.state.now _ c.requires.r_lt_dim c.requires.has_band.band c.requires.has_band.room
-    c.settle_where.ensures _ _ _ c.settle_where-2.ensures c.settle_where-3.ensures c.settle_where-4.ensures
+pub returns-else-below-4 : goal.returns-else-below-4
+returns-else-below-4 c =
+    let t = c.args.t.now in
+    let r = c.args.r in
+    let s = c.args.s in
+    let row = c.requires.row in
+    let fit = c.requires.columns in
+    let b = c.requires.below4 in
+    let start = done_none t r s row fit in
+    let one : Done t r s row fit 1 c.if-below.t = elim c.if-below.branch [
+      | then-below w ↦ rw w.t-is (done-turned t r s row fit 0 s c.args.below.x0 t _ (omega arith) (sym (add-zero s)) b.first start w.if-below.true w.negate.ensures)
+      | else-below w ↦ done_kept t r s row fit 0 s c.args.below.x0 t _ (omega arith) (sym (add-zero s)) b.first start w.if-below.false w.t-is
+    ] in
+    let two : Done t r s row fit 2 c.if-below-2.t = elim c.if-below-2.branch [
+      | then-below-2 w ↦ rw w.t-is (done-turned t r s row fit 1 (s + 1) c.args.below.x1 c.if-below.t _ (omega arith) refl b.second one w.if-below-2.true w.negate-then-below-2.ensures)
+      | else-below-2 w ↦ done_kept t r s row fit 1 (s + 1) c.args.below.x1 c.if-below.t _ (omega arith) refl b.second one w.if-below-2.false w.t-is
+    ] in
+    let three : Done t r s row fit 3 c.if-below-3.t = elim c.if-below-3.branch [
+      | then-below-3 w ↦ rw w.t-is (done-turned t r s row fit 2 (s + 2) c.args.below.x2 c.if-below-2.t _ (omega arith) refl b.third two w.if-below-3.true w.negate-then-below-3.ensures)
+      | else-below-3 w ↦ done_kept t r s row fit 2 (s + 2) c.args.below.x2 c.if-below-2.t _ (omega arith) refl b.third two w.if-below-3.false w.t-is
+    ] in
+    let four = done_kept t r s row fit 3 (s + 3) c.args.below.x3 c.if-below-3.t c.if-below-3.t (omega arith) refl b.fourth three c.if-below-4.false refl in
+    record { same = four.same; now = is-matrix _ _ _ _ four.part }

@@ -2,22 +2,25 @@
 use Prim.Native.Nat.{◌*◌}
 use Rattle.laws.proofs.Matrix.{same}
 use Rattle.pfaffian.proofs.Standing.{measures-tiny, measures-more, kept-update}
+use Rattle.real.proofs.Squares.{same_here}
 use Rattle.pfaffian.proofs.shots.measure.Goals as goal
 
 pub returns : goal.returns
 returns c =
     record {
-      plain = measures-more c.args.dim c.args.k _ _ c.args.m.now _ _ _ _ c.requires.band c.entry.ensures
-          c.clamp-mab.ensures c.drawn-one.ensures c.spin-s.ensures _ c.if-den.false c.requires.room
-          c.update.ensures;
-      kept = kept-update c.args.dim (2 * c.args.k) _ c.args.fresh c.args.m.now _ c.requires.room
-          c.update.ensures;
+      plain = measures-more c.args.m.now.dim c.args.k _ _ c.args.m.now.entries.now _ _ _ _ c.requires c.entry.ensures
+          c.clamp-mab.ensures c.drawn-one.ensures c.spin-s.ensures _ c.if-den.false c.args.m.now.room
+          c.update.ensures.now;
+      kept = record {
+        same = c.update.ensures.same;
+        kept = kept-update c.args.m.now.dim (2 * c.args.k) _ c.args.fresh c.args.m.now.entries.now _ c.args.m.now.room c.update.ensures.now;
+      };
     }
 
 pub returns-then-den : goal.returns-then-den
 returns-then-den c =
     record {
-      plain = measures-tiny c.args.dim c.args.k _ _ c.args.m.now _ _ _ _ c.requires.band c.entry.ensures
+      plain = measures-tiny c.args.m.now.dim c.args.k _ _ c.args.m.now.entries.now _ _ _ _ c.requires c.entry.ensures
           c.clamp-mab.ensures c.drawn-one.ensures c.spin-s.ensures c.if-den.true;
-      kept = same _ _;
+      kept = record { same = same_here _; kept = same _ _ };
     }

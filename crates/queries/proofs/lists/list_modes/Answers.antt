@@ -1,31 +1,28 @@
 -- `queries::lists::list_modes` meets its contract: the modes passed are listed. Assumes nothing.
-use Rattle.std.proofs.Common.{◌≡◌, Bool, true, false, refl, ap, ◌∙◌, le_antisymm, arith, length-set}
-use mir.Val.{bool_byte}
-use Rattle.pfaffian.specs.Shot.{bit}
+use Rattle.std.proofs.Common.{refl, sym, arith, true, false}
 use Rattle.queries.specs.Lists.{passing}
-use Rattle.queries.proofs.Searches.{listed_more}
-use Rattle.queries.proofs.Marking.{bit-small}
+use Rattle.queries.proofs.Searches.{passing-on, passing-off}
 use Rattle.queries.proofs.lists.list_modes.Goals as goal
+use Rattle.queries.proofs.lists.list_modes.Goals.{then-left, else-left}
 
 pub loop-k-init : goal.loop-k-init
 unfolding passing
-loop-k-init g c = (omega arith, refl, λ p h. refl)
-
-byte : (t : Bool) → bool_byte t ≡ bit t
-byte true = refl
-byte false = refl
+loop-k-init g c =
+    let e = c.new-list.ensures in
+    (rw e (omega arith), λ p h. e)
 
 pub loop-k-preserved : goal.loop-k-preserved
 loop-k-preserved g c =
     let l = c.loop-k in
-    let t = c.left.result in
-    let e : c.from-count.result ≡ bit t = c.from-count.ensures ∙ byte t in (
-      omega (arith, e, bit-small t),
-      simp length-set l.invariant.1,
-      λ p h. listed_more p l.k l.count _ l.list (e ∙ ap bit (h l.k t c.loop-k-test.true c.left.ensures)) (omega (arith, c.requires.room)) (l.invariant.2 p h),
-    )
-
-pub returns : goal.returns
-returns g c =
-    let l = c.loop-k in
-    record { fits = omega arith; modes = λ p h. l.invariant.2 p h ∙ ap (passing p) (le_antisymm l.auto.k-end c.loop-k-test.false) }
+    let i = l.invariant in
+    let below = c.loop-k-test.true in
+    elim c.if-left.branch [
+      | then-left w ↦ (
+        rw w.list-is (omega (arith, w.push.ensures.len, i.0)),
+        λ p h. rw (w.list-is, passing-on p l.k (sym (h l.k true below w.if-left.ensures)), w.push.ensures.items, i.1 p h) refl,
+      )
+      | else-left w ↦ (
+        rw w.list-is (omega (arith, i.0)),
+        λ p h. rw (w.list-is, passing-off p l.k (sym (h l.k false below w.if-left.ensures))) (i.1 p h),
+      )
+    ]

@@ -1,14 +1,14 @@
 -- `queries::matrices::pfaffian_cleared` meets its contract: what the Pfaffian left is filled. Assumes nothing.
-use Rattle.std.proofs.Common.{◌*◌, ◌∙◌}
-use lib.Ieee.{of_bits}
+use Rattle.std.proofs.Common.{◌∙◌}
 use Rattle.laws.specs.Zeros.{+0}
 use Rattle.laws.proofs.Matrix.{filled_is}
-use Rattle.state.proofs.Fills.{filled-front}
+use Rattle.real.proofs.Squares.{same_then}
 use Rattle.queries.proofs.matrices.pfaffian_cleared.Goals as goal
 
 pub returns-clause-work : goal.returns-clause-work
-unfolding of_bits
 returns-clause-work c =
-    let dim = c.args.dim in
-    filled-front +0 (dim * dim) c.pfaffian-x.new.a c.fill.new.self (c.fill.ensures.after (λ y e. e))
-    ∙ filled_is dim +0 _ _ _ c.pfaffian-x.ensures.kept
+    let kept = c.pfaffian-x.ensures.kept in
+    let clears = c.clear.ensures in record {
+      same = same_then _ _ _ kept.same clears.same;
+      now = rw kept.same.dim at clears.now ∙ filled_is c.args.m.now.dim +0 _ _ _ kept.kept;
+    }

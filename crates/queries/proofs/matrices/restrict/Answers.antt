@@ -1,13 +1,19 @@
 -- `queries::matrices::restrict` meets its contract: a row a turn (`rows_more`). Assumes nothing.
 use Rattle.std.proofs.Common.{arith}
 use Rattle.queries.proofs.Filling.{rows_start, rows_more, rows-done}
+use Rattle.real.proofs.Squares.{same_here, same_then}
 use Rattle.queries.proofs.matrices.restrict.Goals as goal
 
 pub loop-r-init : goal.loop-r-init
-loop-r-init c = rows_start _ _ _
+loop-r-init c = (same_here _, rows_start _ _ _)
 
 pub loop-r-preserved : goal.loop-r-preserved
-loop-r-preserved c = rows_more _ _ _ _ _ _ c.requires.room c.loop-r.invariant c.restrict_row.ensures
+loop-r-preserved c =
+    let l = c.loop-r in
+    let e = c.restrict_row.ensures in
+    (same_then _ _ _ l.invariant.0 e.same, rows_more _ _ _ _ _ _ c.args.m.now.room l.invariant.1 (rw l.invariant.0.dim at e.now))
 
 pub returns : goal.returns
-returns c = rows-done _ _ _ _ _ c.requires.room (omega arith) c.loop-r.invariant
+returns c =
+    let l = c.loop-r in
+    record { same = l.invariant.0; now = rows-done _ _ _ _ _ c.args.m.now.room (omega arith) l.invariant.1 }

@@ -1,12 +1,11 @@
 -- `queries::samples::sample` meets its contract, by its questions. Assumes nothing.
-use Rattle.std.proofs.Common.{◌*◌, ◌∙◌, le-leb}
+use Rattle.std.proofs.Common.{rules, ◌≡◌, ◌*◌, ◌∙◌, le-leb}
 use Rattle.std.proofs.lemmas.Result.{err_from_is_err_and}
 use borrow.Author.Tests.{lt-leb}
 use lib.Ieee.{of_bits}
 use Rattle.laws.specs.Zeros.{+0}
 use Rattle.laws.proofs.Matrix.{filled_is}
 use Rattle.state.specs.Answers.{done, refusal}
-use Rattle.state.proofs.Fills.{filled-front}
 use Rattle.queries.specs.Calls.{covariance_of, shots_of, shots_out, worked_work, sample_of, sample_work, sample_out}
 use Rattle.queries.proofs.samples.sample.Goals as goal
 
@@ -32,10 +31,10 @@ returns c =
     let r = c.sample_worked-answer.ensures in
     let fits = le-leb _ _ c.if-work-dim.false in
     let dim = 2 * a.n in
-    let w = c.sample_worked-answer.new.work in
-    let kept = rw e.1 at r.kept in
+    let clears = c.clear.ensures in
+    let left : _ ≡ c.clear.new.m.entries.now = search rules in
     record {
       answer = rw (e.0, fits) (r.answer ∙ (λ t. shots_of (e.1 t) a.shots a.draws.now a.out.now));
-      work = rw (e.0, fits) (filled-front +0 (dim * dim) w c.fill.new.self (c.fill.ensures.after (λ y g. g)) ∙ filled_is dim +0 a.work.now _ _ kept);
+      work = rw (e.0, fits) (left ∙ rw r.kept.same.dim at clears.now ∙ filled_is dim +0 a.work.now _ _ r.kept.kept);
       out = rw (e.0, fits) (r.out ∙ (λ t. shots_out (covariance_of (e.1 t) (e.2 t)) (e.1 t) (e.3 t) a.shots a.draws.now a.out.now));
     }

@@ -10,6 +10,7 @@ use Rattle.state.proofs.Permutations.{table-long}
 use Rattle.queries.specs.Samples.{shot_at}
 use Rattle.queries.specs.Calls.{covariance_of}
 use Rattle.queries.proofs.Sampling.{shot-copied, written-more, written_all}
+use Rattle.real.proofs.Squares.{same_then}
 use Rattle.queries.proofs.samples.take_shots.Goals as goal
 
 pub shot-w-requires-clause-n_in_bounds_3 : goal.shot-w-requires-clause-n_in_bounds_3
@@ -22,17 +23,25 @@ loop-i-preserved c =
     let l = c.loop-i in
     let checked = c.args.checked in
     let n = checked.n in
-    let copies = c.copy_covariance in
-    let takes = c.shot-w in
-    let room : 2 * n * (2 * n) ≤ length l.work = rw l.invariant.1.long c.requires.work_room in
-    let s = covariance_of n checked.state.now in (
+    let is = l.invariant.1.same.dim in
+    let copies = c.copy_covariance.ensures in
+    let copied = c.copy_covariance.new.m.entries.now in
+    let takes = c.shot-w.ensures in
+    let dim = c.args.m.now.dim in
+    let room : dim * dim ≤ length l.m.entries.now = rw l.invariant.1.kept.long c.args.m.now.room in
+    let s = covariance_of n checked.state.now in
+    let e = rw is at copies.now in
+    let kept = rw (copies.same.dim ∙ is) at takes.kept.kept in
+    let words = rw (copies.same.dim ∙ is ∙ c.requires.rows) at takes.words in (
       refl,
-      kept_then (2 * n) _ copies.new.work _ (kept_then (2 * n) _ l.work copies.new.work l.invariant.1
-          (kept-matrix (2 * n) l.work _ s room copies.ensures)) takes.ensures.kept,
+      record {
+        same = same_then _ _ _ l.invariant.1.same (same_then _ _ _ copies.same takes.kept.same);
+        kept = kept_then dim _ copied _ (kept_then dim _ l.m.entries.now copied l.invariant.1.kept (kept-matrix dim l.m.entries.now copied s room e)) kept;
+      },
       written-more (shot_at s n checked.modes.now c.args.draws.now) l.i c.args.out.now l.out _ (omega arith)
-          (takes.ensures.words
-          ∙ ap (λ d. shot_of (at (2 * n) copies.new.work) n d (mode_at checked.modes.now)) (draws-from c.args.draws.now (l.i * n))
-          ∙ shot-copied s n checked.modes.now c.args.draws.now l.i (l.i * n) l.work _ room copies.ensures refl)
+          (words
+          ∙ ap (λ d. shot_of (at (2 * n) copied) n d (mode_at checked.modes.now)) (draws-from c.args.draws.now (l.i * n))
+          ∙ shot-copied s n checked.modes.now c.args.draws.now l.i (l.i * n) l.m.entries.now _ (rw c.requires.rows at room) (rw c.requires.rows at e) refl)
           l.invariant.2,
     )
 

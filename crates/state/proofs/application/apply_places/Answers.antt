@@ -1,5 +1,5 @@
 -- `state::application::apply_places` meets its contract, by the cases of what was decoded. Assumes nothing.
-use Rattle.std.proofs.Common.{◌≡◌, Option, None, Err, sym, ◌∙◌}
+use Rattle.std.proofs.Common.{rules, ◌≡◌, Option, None, Err, refl, sym, ◌∙◌}
 use Rattle.std.specs.Option.{ok_or}
 use Rattle.std.proofs.lemmas.Result.{err_from_is_err_and}
 use Rattle.state.specs.Answers.{done, refusal}
@@ -25,10 +25,11 @@ returns-in_err-o c =
 
 pub apply_operation-requires : goal.apply_operation-requires
 apply_operation-requires c =
-    record { has_state = c.requires.has_state; fits = decode-fits c.args.n c.args.op.now _ (sym c.decode.ensures ∙ c.in_ok-o.ensures.ok_part) }
+    record { rows = refl; fits = decode-fits c.args.n c.args.op.now _ (sym c.decode.ensures ∙ c.in_ok-o.ensures.ok_part) }
 
 pub returns : goal.returns
 unfolding done decoded_answer decoded_state
 returns c =
     let some = sym c.decode.ensures ∙ c.in_ok-o.ensures.ok_part in
-    record { answer = rw some; state = rw some c.apply_operation.ensures }
+    let left : _ ≡ c.apply_operation.new.t.entries.now = search rules in
+    record { answer = rw some; state = rw some (left ∙ c.apply_operation.ensures.now) }

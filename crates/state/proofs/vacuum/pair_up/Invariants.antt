@@ -1,8 +1,7 @@
 -- `state::vacuum::pair_up` meets its contract: a turn writes the pair of a mode. Assumes nothing.
-use Rattle.std.proofs.Common.{◌≡◌}
-use Rattle.state.specs.Bounds.{dim_of}
+use Rattle.real.specs.Squares.{Same}
 use Rattle.state.proofs.Pairs.{Paired}
 use Rattle.state.proofs.vacuum.pair_up.Given as goal
 
 abbrev pub invariant-loop-k : goal.invariant-loop-k
-invariant-loop-k l = (l.dim ≡ dim_of l.n) × Paired l.dim l.initial.m l.k l.m
+invariant-loop-k l = Same l.initial.m l.m × Paired l.initial.m.dim l.initial.m.entries.now l.k l.m.entries.now

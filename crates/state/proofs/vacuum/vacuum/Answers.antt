@@ -1,5 +1,5 @@
 -- `state::vacuum::vacuum` meets its contract: the matrix cleared, the pairs, and the signs. Assumes nothing.
-use Rattle.std.proofs.Common.{◌*◌, ◌∙◌, arith}
+use Rattle.std.proofs.Common.{rules, ◌≡◌, ◌*◌, ◌∙◌, arith}
 use lib.Ieee.{of_bits}
 use Rattle.laws.specs.Zeros.{+0, +1}
 use Rattle.laws.specs.Slices.{filled}
@@ -15,6 +15,7 @@ returns c =
     let dim = dim_of c.args.n in
     let zeros = c.fill.ensures.after (λ y e. e) in
     let ones = c.fill-2.ensures.after (λ y e. e) in
+    let left : _ ≡ c.pair_up.new.m.entries.now = search rules in
     vacuum-made dim c.args.state.now _ _ _ c.requires.room
-    (filled-front +0 (dim * dim) c.args.state.now c.fill.new.self zeros) c.pair_up.ensures
-    (part-back _ _ c.pair_up.new.m (filled dim +1) _ (ones ∙ filled-part +1 dim _ _ (omega arith)))
+    (filled-front +0 (dim * dim) c.args.state.now c.fill.new.self zeros) (left ∙ c.pair_up.ensures.now)
+    (part-back _ _ _ (filled dim +1) _ (ones ∙ filled-part +1 dim _ _ (omega arith)))

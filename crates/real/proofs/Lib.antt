@@ -1,0 +1,2 @@
+-- Laws of `real` that the crates above cite.
+pub mod Squares
