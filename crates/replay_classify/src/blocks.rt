@@ -1,9 +1,10 @@
-// A block and what is computed of it, beside the words of its record.
+// A block and what is computed of it, beside the words of its record. Words and tallies are passed one by one: the ones are read, the others counted up, and
+// nothing is true of the pair.
 use crate::tallies::Tallies;
 use classify::Class2;
 use gate::{Complex, Mat2, Mat4, Matrix, Row4};
 use real::{Map2, Map4, Real4};
-use stored::records::Tag;
+use stored::records::{Tag, numbered};
 use stored::values::{Stored, compare, list};
 use stored::words::{Plain, Words};
 
@@ -15,22 +16,18 @@ pub enum Block {
     Phases,
 }
 
+// Each with the words of its record, in the order of their tags, the first of which is 1.
+const BLOCKS: [(Block, usize); 3] = [(Block::One, 14), (Block::Two, 71), (Block::Phases, 26)];
+
 impl Tag for Block {
     fn of(word: u64) -> Option<Block> {
-        match word {
-            1 => Some(Block::One),
-            2 => Some(Block::Two),
-            3 => Some(Block::Phases),
-            _ => None,
-        }
+        let (block, _) = numbered(&BLOCKS, 1, word)?;
+        Some(block)
     }
 
     fn length(&self, _words: Plain) -> Option<usize> {
-        Some(match self {
-            Block::One => 14,
-            Block::Two => 71,
-            Block::Phases => 26,
-        })
+        let (_, words) = BLOCKS[*self as usize];
+        Some(words)
     }
 }
 
@@ -48,7 +45,7 @@ impl Block {
 // The tolerances of the classes.
 const TOLERANCES: [f64; 5] = [0.0, -0.0, 1e-12, 1e-10, 0.001];
 
-// Of the original's class where it is not compared.
+// What stored lists have for the original's class where it is not compared.
 const NOT_COMPARED: u64 = 8;
 
 // A test is stored as 1 or 0.

@@ -1,7 +1,7 @@
 // A tape compiled in lent slices, and what that answers and leaves there beside the words of its record.
 use detect::{Report, Told};
 use std::io;
-use stored::values::{Stored, compare, compare_table, is_cleared, list};
+use stored::values::{Stored, compare, compare_both, compare_table, list};
 use stored::words::{Plain, size};
 use stored::{Tally, print_tally};
 
@@ -28,48 +28,44 @@ impl Tallies {
     }
 }
 
-// Number and place.
-fn answer_agrees(told: Told, words: &mut Plain) -> bool {
-    compare(&[told.number, told.place], words).is_ok()
-}
-
-fn report_agrees(report: Report, words: &mut Plain) -> bool {
-    let counts = compare(&detect::report_words(report), words);
-    let measures = compare(&[report.fraction, report.residual], words);
-    counts.and(measures).is_ok()
-}
-
-fn tables_agree(report: Report, n: usize, words: &mut Plain) -> bool {
-    let order = compare_table(&report.order, n, words);
-    let starts = compare_table(&report.starts, n, words);
-    let modes = compare_table(&report.modes, n, words);
-    order.and(starts).and(modes).is_ok()
-}
-
 // A record: the tape, the lengths of the lent slices, how many places of work are zero afterwards, number and place, the report, its tables, the
 // operation slice. Every place is 7 before the call. Nothing where the record cannot be read.
 pub fn replay(mut words: Plain, tallies: &mut Tallies) -> Option<()> {
     let tape = words.tape()?;
-    let lengths: [usize; 3] = list(&mut words)?;
-    let zeros: [usize; 2] = list(&mut words)?;
-    let mut float_space = [7.0; stored::FLOATS];
-    let mut mark_space = [7u32; stored::MARKS];
+    let [floats, marks, places]: [usize; 3] = list(&mut words)?;
+    let zeros = list(&mut words)?;
     let mut place_space = [7.0; PLACES];
-    let floats = float_space.get_mut(..lengths[0])?;
-    let marks = mark_space.get_mut(..lengths[1])?;
-    let operations = place_space.get_mut(..lengths[2])?;
-    let told = Told::from(detect::compile(tape, floats, marks, operations));
-    tallies.work.note(is_cleared(floats, zeros[0], 7.0) && is_cleared(marks, zeros[1], 7));
-    tallies.answers.note(answer_agrees(told, &mut words));
+    let lent = place_space.get_mut(..places)?;
+    let (told, cleared) = stored::worked([floats, marks], zeros, |floats, marks| {
+        Told::from(detect::compile(tape, floats, marks, lent))
+    })?;
+    let operations = place_space.get(..places)?;
+    let answer = compare(&[told.number, told.place], &mut words);
+    tallies.work.note(cleared);
+    tallies.answers.note(answer.is_ok());
     left(told.report, operations, words, tallies)
 }
 
-// The report with its tables, and the operation slice, of which every place is compared by itself.
+// The report with its tables, and the operation slice, of which every place is compared by itself. Beside replay_run's: there each comparison is noted with
+// its tape, and words are packed.
 fn left(report: Report, operations: &[f64], mut words: Plain, tallies: &mut Tallies) -> Option<()> {
     let mut ahead = words;
     let n = size(&mut ahead)?;
-    tallies.reports.note(report_agrees(report, &mut words));
-    tallies.tables.note(tables_agree(report, n, &mut words));
+    let counts = detect::report_words(report);
+    let measures = [report.fraction, report.residual];
+    let reports = compare_both(&counts, &measures, &mut words);
+    let Report {
+        order,
+        starts,
+        modes,
+        ..
+    } = report;
+    let mut tables = Ok(());
+    for table in [order, starts, modes] {
+        tables = tables.and(compare_table(&table, n, &mut words));
+    }
+    tallies.reports.note(reports.is_ok());
+    tallies.tables.note(tables.is_ok());
     for place in operations {
         tallies.operations.note(place.agrees(&mut words));
     }

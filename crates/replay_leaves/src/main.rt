@@ -6,7 +6,7 @@
 mod leaf; // leaf.rt: the leaves, by the tags of their records
 
 use gate::{Mat2, Mat4, Matrix};
-use leaf::Leaf;
+use leaf::{LEAVES, Leaf};
 use reading::large_buffer;
 use std::io;
 use std::rt::Files;
@@ -77,12 +77,13 @@ fn replay(rt: &(impl Files + Print + Eprint), path: &str) -> io::Result<()> {
     let mut space = large_buffer();
     let n = stored::read_list(rt, path.as_bytes(), &mut space)?;
     let mut records = Records::<Leaf>::new(&space[..n]);
-    let mut tallies = [Tally::default(); Leaf::ALL.len()];
+    // beside the table of names, by the case's number: no heap, so no map
+    let mut tallies = [Tally::default(); LEAVES.len()];
     for (leaf, mut words) in &mut records {
         tallies[leaf as usize].note(agrees(leaf, &mut words) == Some(true));
     }
-    for leaf in Leaf::ALL {
-        stored::print_tally(rt, leaf.name(), tallies[leaf as usize])?;
+    for (leaf, name, _) in LEAVES {
+        stored::print_tally(rt, name, tallies[leaf as usize])?;
     }
     if records.is_at_end() {
         println!(rt; "end")?;

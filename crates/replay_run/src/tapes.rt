@@ -1,6 +1,6 @@
 // A tape run in lent slices, and what it answers and leaves there beside the words of its record.
-use detect::{REPORT_WORDS, Report, Told};
-use stored::values::{compare, compare_table, is_cleared, list};
+use detect::{Report, Told};
+use stored::values::{compare, compare_both, compare_table, list};
 use stored::words::{Plain, Words, size};
 use stored_queries::asked::{Query, State, Widths};
 use stored_queries::counts::Counts;
@@ -14,7 +14,7 @@ const QUERIES: usize = 256;
 pub fn replay(mut record: Plain, k: usize, counts: &mut Counts) -> Option<()> {
     let tape = record.tape()?;
     record.word()?;
-    let words = Packed::new(record.rest());
+    let words = Packed::new(record.bytes);
     Comparison { words, k, counts }.run(tape)
 }
 
@@ -29,46 +29,51 @@ struct Comparison<'a, W> {
 impl<'a, W: Words> Comparison<'a, W> {
     // A run in slices of the lengths that the words name, with 7 in every place before.
     fn run(&mut self, tape: &[u8]) -> Option<()> {
-        let lengths: [usize; 4] = list(&mut self.words)?;
-        let zeros: [usize; 2] = list(&mut self.words)?;
-        let mut float_space = [7.0; stored::FLOATS];
-        let mut mark_space = [7u32; stored::MARKS];
+        let [floats, marks, places, entries]: [usize; 4] = list(&mut self.words)?;
+        let zeros = list(&mut self.words)?;
         let mut place_space = [7.0; stored::PLACES];
         let mut entry_space = [7.0; stored::STATE];
-        let floats = float_space.get_mut(..lengths[0])?;
-        let marks = mark_space.get_mut(..lengths[1])?;
-        let operations = place_space.get_mut(..lengths[2])?;
-        let entries = entry_space.get_mut(..lengths[3])?;
-        let told = Told::from(gaussian::run(tape, floats, marks, operations, entries));
-        let cleared = is_cleared(floats, zeros[0], 7.0) && is_cleared(marks, zeros[1], 7);
+        let lent_places = place_space.get_mut(..places)?;
+        let lent_entries = entry_space.get_mut(..entries)?;
+        let (told, cleared) = stored::worked([floats, marks], zeros, |floats, marks| {
+            Told::from(gaussian::run(tape, floats, marks, lent_places, lent_entries))
+        })?;
+        let operations = place_space.get(..places)?;
+        let state = entry_space.get(..entries)?;
+        let answer = compare(&[told.number, told.place], &mut self.words);
         self.counts
             .work
             .note(self.k, cleared.then_some(()).ok_or(0));
-        let answer = answer(told, &mut self.words);
         self.counts.answers.note(self.k, answer);
-        self.left(told.report, operations, entries)
+        self.left(told.report, operations, state)
     }
 
     // The report with its tables, the slices, and the queries on the state.
-    fn left(&mut self, told: Report, operations: &[f64], entries: &[f64]) -> Option<()> {
+    fn left(&mut self, report: Report, operations: &[f64], entries: &[f64]) -> Option<()> {
         let mut ahead = self.words;
         let n = size(&mut ahead)?;
-        let reports = report(told, &mut self.words);
-        let order = compare_table(&told.order, n, &mut self.words);
-        let starts = compare_table(&told.starts, n, &mut self.words);
-        let modes = compare_table(&told.modes, n, &mut self.words);
+        let counts = detect::report_words(report);
+        let measures = [report.fraction, report.residual];
+        let reports = compare_both(&counts, &measures, &mut self.words);
+        self.counts.reports.note(self.k, reports);
+        let Report {
+            order,
+            starts,
+            modes,
+            ..
+        } = report;
+        for table in [order, starts, modes] {
+            let tables = compare_table(&table, n, &mut self.words);
+            self.counts.tables.note(self.k, tables);
+        }
         let left_operations = compare(operations, &mut self.words);
         let left_entries = compare(entries, &mut self.words);
-        self.counts.reports.note(self.k, reports);
-        self.counts.tables.note(self.k, order);
-        self.counts.tables.note(self.k, starts);
-        self.counts.tables.note(self.k, modes);
         self.counts.operations.note(self.k, left_operations);
         self.counts.states.note(self.k, left_entries);
         self.queries(State {
-            n: told.n,
+            n: report.n,
             entries,
-            modes: &told.modes,
+            modes: &modes,
         })
     }
 
@@ -88,17 +93,6 @@ impl<'a, W: Words> Comparison<'a, W> {
         }
         Some(())
     }
-}
-
-// Number and place.
-fn answer<W: Words>(told: Told, words: &mut W) -> Result<(), usize> {
-    compare(&[told.number, told.place], words)
-}
-
-fn report<W: Words>(report: Report, words: &mut W) -> Result<(), usize> {
-    let counts = compare(&detect::report_words(report), words);
-    let measures = compare(&[report.fraction, report.residual], words);
-    counts.and(measures.map_err(|place| REPORT_WORDS + place))
 }
 
 fn skip<W: Words>(length: usize, words: &mut W) -> Option<()> {

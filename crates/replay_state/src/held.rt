@@ -1,6 +1,7 @@
 // The state that calls are on.
+use arrayvec::ArrayVec;
 use laws::OP_PLACES;
-use stored::values::{Stored, Word, compare, list};
+use stored::values::{Stored, compare, list};
 use stored::words::{Plain, Words, size};
 use stored_queries::asked::{Query, State, Widths};
 
@@ -17,45 +18,31 @@ const WIDTHS: Widths = Widths {
     output: 16,
 };
 
-// A state's n, the lengths of its slice and of its mode table, and the places of which they are the first.
-#[derive(Clone, Copy)]
+// A state's n, its slice and its mode table.
+#[derive(Drop)]
 pub struct Held {
     n: usize,
-    length: usize,
-    listed: usize,
-    places: [f64; PLACES],
-    table: [u16; QUBITS],
+    entries: ArrayVec<f64, PLACES>,
+    modes: ArrayVec<u16, QUBITS>,
 }
 
 impl Held {
-    // No qubits.
-    pub fn none() -> Held {
-        Held {
-            n: 0,
-            length: 0,
-            listed: 0,
-            places: [0.0; PLACES],
-            table: [0; QUBITS],
-        }
-    }
-
     // The state of a record; nothing where it cannot be read. Places that the record does not have are zero.
     pub fn read(words: &mut Plain) -> Option<Held> {
         let n = size(words)?;
         let length = size(words)?;
         let listed = size(words)?;
-        let table = list(words)?;
-        let mut places = [0.0; PLACES];
-        for place in places.iter_mut() {
-            *place = f64::read(words).unwrap_or(0.0);
-        }
-        Some(Held {
+        let table: [u16; QUBITS] = list(words)?;
+        let mut held = Held {
             n,
-            length,
-            listed,
-            places,
-            table,
-        })
+            entries: ArrayVec::new(),
+            modes: ArrayVec::new(),
+        };
+        held.modes.try_extend_from_slice(table.get(..listed)?).ok()?;
+        for _ in 0..length {
+            held.entries.try_push(f64::read(words).unwrap_or(0.0)).ok()?;
+        }
+        Some(held)
     }
 
     // Whether an operation's answer agrees: it has a number and a place.
@@ -63,22 +50,25 @@ impl Held {
         let length = size(words)?;
         let places: [f64; OPERATION] = list(words)?;
         let operation = places.get(..length)?;
-        let entries = self.places.get_mut(..self.length)?;
-        let modes = self.table.get(..self.listed)?;
-        let told = state::Told::from(state::apply(self.n, entries, modes, operation));
+        let told = state::Told::from(state::apply(
+            self.n,
+            self.entries.as_mut_slice(),
+            self.modes.as_slice(),
+            operation,
+        ));
         Some(compare(&[told.number, told.place], words).is_ok())
     }
 
     // Whether the state's slice is what the words are.
-    pub fn holds(&self, words: &mut Plain) -> Option<bool> {
-        Some(compare(self.places.get(..self.length)?, words).is_ok())
+    pub fn holds(&self, words: &mut Plain) -> bool {
+        compare(self.entries.as_slice(), words).is_ok()
     }
 
     pub fn answers(&self, query: Query, words: &mut Plain) -> Option<bool> {
         let state = State {
             n: self.n,
-            entries: self.places.get(..self.length)?,
-            modes: self.table.get(..self.listed)?,
+            entries: self.entries.as_slice(),
+            modes: self.modes.as_slice(),
         };
         query.agrees(state, WIDTHS, words)
     }

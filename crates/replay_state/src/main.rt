@@ -14,43 +14,56 @@ use std::rt::Files;
 use stored::Tally;
 use stored::records::Records;
 use stored::words::{Plain, Words};
-use stored_queries::asked::Query;
+use stored_queries::asked::{QUERIES, Query};
 
 // The comparisons of a list.
 #[derive(Clone, Copy, Default)]
 struct Tallies {
     apply: Tally,
     states: Tally,
-    queries: [Tally; Query::COUNT],
+    queries: [Tally; Query::COUNT], // by the case's number: no heap, so no map
 }
 
 impl Tallies {
     fn print(&self, rt: &impl Print) -> io::Result<()> {
         stored::print_tally(rt, "apply", self.apply)?;
         stored::print_tally(rt, "states", self.states)?;
-        for query in Query::ALL {
-            stored::print_tally(rt, query.name(), self.queries[query as usize])?;
+        for (query, name) in QUERIES {
+            stored::print_tally(rt, name, self.queries[query as usize])?;
         }
         Ok(())
     }
 }
 
-// Another state, or a call on the one that is held. Words that cannot be read do not agree.
-fn step(call: Call, words: &mut Plain, held: &mut Held, tallies: &mut Tallies) {
+// Whether a call on the state that is held agrees; nothing where there is none, or the words cannot be read.
+fn agrees(call: Call, words: &mut Plain, held: &mut Option<Held>) -> Option<bool> {
+    match (call, held) {
+        (Call::Apply, Some(held)) => held.apply(words),
+        (Call::Holds, Some(held)) => Some(held.holds(words)),
+        (Call::Asked(query), Some(held)) => held.answers(query, words),
+        _ => None,
+    }
+}
+
+// Another state, or a call on the one that is held. What cannot be read does not agree.
+fn step(call: Call, words: &mut Plain, held: &mut Option<Held>, tallies: &mut Tallies) {
+    if let Call::State = call {
+        *held = Held::read(words);
+        return;
+    }
+    let right = agrees(call, words, held) == Some(true);
     match call {
-        Call::State => *held = Held::read(words).unwrap_or(Held::none()),
-        Call::Apply => tallies.apply.note(held.apply(words) == Some(true)),
-        Call::Holds => tallies.states.note(held.holds(words) == Some(true)),
-        Call::Asked(query) => {
-            tallies.queries[query as usize].note(held.answers(query, words) == Some(true));
-        }
+        Call::State => {}
+        Call::Apply => tallies.apply.note(right),
+        Call::Holds => tallies.states.note(right),
+        Call::Asked(query) => tallies.queries[query as usize].note(right),
     }
 }
 
 fn replay(rt: &(impl Files + Print + Eprint), path: &str) -> io::Result<()> {
     let mut space = large_buffer();
     let n = stored::named_list(rt, path.as_bytes(), &mut space)?;
-    let mut held = Held::none();
+    let mut held = None;
     let mut tallies = Tallies::default();
     for (call, mut words) in Records::<Call>::new(&space[..n]) {
         words.word(); // how many there are

@@ -86,9 +86,10 @@ struct Answers {
     whole: bool,
 }
 
-// The answers of a list, each put to the first bytes of the tape before it. A record takes a byte at least.
+// The answers of a list, each put to the first bytes of the tape before it. A record takes a byte at least, so that a count of turns ends the
+// walk: an iterator would be an impl more for this one loop.
 fn replayed(bytes: &[u8]) -> Answers {
-    let none = Tally { right: 0, all: 0 };
+    let none = Tally::default();
     let (mut checks, mut labels, mut gates) = (none, none, none);
     let mut list = List::new(bytes);
     let mut tape: &[u8] = &[];

@@ -1,4 +1,4 @@
-// The records of a list: a tape, and answers to the tape before them.
+// The records of a list: a tape, and answers to the tape before them. Beside `stored::words`: a word is two bytes here, and a tape does not fill whole words.
 
 // A list, from the record that is read next.
 #[derive(Clone, Copy)]
@@ -7,7 +7,7 @@ pub struct List<'a> {
 }
 
 // The answer to the check of so many bytes of the tape: the refusal or the numbers of gates and labels,
-// and where one label's bytes start and end.
+// and where one label's bytes start and end. Word by word as the list has it: a refusal's number is 0 where there is none.
 #[derive(Clone, Copy)]
 pub struct Check {
     pub length: usize,

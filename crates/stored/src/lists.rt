@@ -18,8 +18,8 @@ fn read_named(rt: &(impl Files + Eprint), path: &str, space: &mut [u8]) -> io::R
     }
 }
 
-// Reads a whole list: how many bytes it has. Where it cannot be opened the reason goes to standard error, and there are none. An error is that of a read,
-// or of that writing.
+// Reads a whole list: how many bytes it has. The path is bytes, since a `&str` would ask more of the caller. Where it cannot be opened the reason goes to
+// standard error, and there are none. An error is that of a read, or of that writing.
 pub fn read_list(rt: &(impl Files + Eprint), path: &[u8], space: &mut [u8]) -> io::Result<usize>
     ensures { ReadsAtMost result space.new }
 {

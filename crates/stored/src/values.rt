@@ -1,11 +1,11 @@
 // What words stand for. A float is stored by its bits, every NaN by one pattern; a matrix row by row, real before imaginary.
-ghost use Rattle.std.specs.Prelude.{ℕ, ◌≡◌, ◌<◌, ◌↔◌, IfErr, IsTrue, All, length, take, drop};
+ghost use Rattle.std.specs.Prelude.{ℕ, ◌≡◌, ◌+◌, ◌<◌, ◌↔◌, IfErr, IsTrue, All, length, take, drop};
 ghost use Rattle.num.specs.Bits.{bits_of};
 
 use crate::words::Words;
 use gate::{Complex, Mat2, Mat4, Matrix};
 
-// What one word stands for.
+// What one word stands for. Not From and TryFrom: a float is stored by its bits.
 pub trait Word: Copy {
     // The word that stands for a value.
     ghost word_of: { Self → ℕ };
@@ -41,6 +41,7 @@ impl Word for f64 {
     }
 }
 
+// An impl for each type, here and for matrices: a float is read by its bits, an integer if it fits.
 impl Word for u32 {
     ghost word_of = { λ x. x };
 
@@ -85,7 +86,7 @@ impl Word for usize {
     }
 
     fn word(self) -> u64 {
-        self as u64
+        self as u64 // a cast, since the library has no `From` here
     }
 }
 
@@ -140,6 +141,7 @@ impl Stored for Mat4 {
     }
 }
 
+// The array is as long as the larger matrix is: no array takes its length from a type parameter.
 fn matrix<M: Matrix, W: Words>(words: &mut W) -> Option<M> {
     let mut floats = [0.0; 32];
     for float in &mut floats[..M::FLOATS] {
@@ -174,6 +176,17 @@ pub fn compare<T: Word, W: Words>(values: &[T], words: &mut W) -> Result<(), usi
         }
     }
     first
+}
+
+// Where numbers and then floats first differ from the words: the places of the floats count on from those of the numbers.
+pub fn compare_both<W: Words>(numbers: &[u64], floats: &[f64], words: &mut W) -> Result<(), usize>
+    ensures { IfErr result (λ place. place < length numbers.now + length floats.now) }
+{
+    let first = compare(numbers, words);
+    match compare(floats, words) {
+        Err(place) => first.and(Err(numbers.len() + place)),
+        Ok(()) => first,
+    }
 }
 
 // Where a table first differs from its first n entries, which the words are; the others are 0.

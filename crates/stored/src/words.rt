@@ -16,23 +16,10 @@ pub fn size<W: Words>(words: &mut W) -> Option<usize> {
 // Bytes that are words.
 #[derive(Clone, Copy)]
 pub struct Plain<'a> {
-    bytes: &'a [u8],
+    pub bytes: &'a [u8], // that are left
 }
 
 impl<'a> Plain<'a> {
-    pub fn new(bytes: &'a [u8]) -> Plain<'a>
-        ensures { result.bytes.now ≡ bytes.entry.now }
-    {
-        Plain { bytes }
-    }
-
-    // The bytes that are left.
-    pub fn rest(self) -> &'a [u8]
-        ensures { result.now ≡ self.entry.bytes.now }
-    {
-        self.bytes
-    }
-
     // So many words, and those after them; nothing where they are too few.
     pub fn split(self, words: usize) -> Option<(Plain<'a>, Plain<'a>)>
         ensures { IfSome result (λ p. (8 * words ≤ length self.entry.bytes.now)
@@ -40,7 +27,7 @@ impl<'a> Plain<'a> {
             × (p.1.bytes.now ≡ drop (8 * words) self.entry.bytes.now)) }
     {
         let (first, rest) = self.bytes.split_at_checked(words.checked_mul(8)?)?;
-        Some((Plain::new(first), Plain::new(rest)))
+        Some((Plain { bytes: first }, Plain { bytes: rest }))
     }
 
     // The tape of a record that begins with the tape's length and the number of words after this one. It fills whole words.

@@ -2,6 +2,7 @@
 // after the call (not of Z), the answer: number, place, value; then a sample's output. Work and output are 7 everywhere before a call.
 use laws::MAX_QUBITS;
 use state::Told;
+use stored::records::numbered;
 use stored::values::{Stored, Word, compare, is_cleared};
 use stored::words::{Words, size};
 
@@ -10,7 +11,7 @@ const LISTED: usize = 2 * MAX_QUBITS;
 
 const OUT: usize = 64;
 
-// What queries are put to.
+// What queries are put to. Passed beside the words: nothing is true of the pair.
 #[derive(Clone, Copy)]
 pub struct State<'a> {
     pub n: usize,
@@ -36,33 +37,22 @@ pub enum Query {
     Sample,
 }
 
+// Each query with its name, in the order of their tags, the first of which is 4.
+pub const QUERIES: [(Query, &str); Query::COUNT] = [
+    (Query::Z, "expectation_z"),
+    (Query::Zz, "z_correlation"),
+    (Query::Product, "expectation_z_product"),
+    (Query::Marginal, "marginal_probability"),
+    (Query::Probability, "probability"),
+    (Query::Sample, "sample"),
+];
+
 impl Query {
     pub const COUNT: usize = 6;
 
-    // In the order of their tags, the first of which is 4.
-    pub const ALL: [Query; Query::COUNT] = [
-        Query::Z,
-        Query::Zz,
-        Query::Product,
-        Query::Marginal,
-        Query::Probability,
-        Query::Sample,
-    ];
-
     pub fn of(tag: u64) -> Option<Query> {
-        let place = tag.checked_sub(4)?;
-        Query::ALL.get(place as usize).copied()
-    }
-
-    pub fn name(self) -> &'static str {
-        match self {
-            Query::Z => "expectation_z",
-            Query::Zz => "z_correlation",
-            Query::Product => "expectation_z_product",
-            Query::Marginal => "marginal_probability",
-            Query::Probability => "probability",
-            Query::Sample => "sample",
-        }
+        let (query, _) = numbered(&QUERIES, 4, tag)?;
+        Some(query)
     }
 
     // Whether the answer and what is left in work agree; nothing where the query cannot be read.
@@ -85,7 +75,7 @@ fn told<W: Words>(t: Told, words: &mut W) -> bool {
     place.is_ok() && value
 }
 
-// So many entries, stored in at least so many words.
+// So many entries, stored in at least so many words. A longer array is filled and its first part taken, since the words behind the entries are read too.
 fn listed<T: Word, W: Words>(count: usize, width: usize, words: &mut W) -> Option<[T; LISTED]> {
     let mut list = [T::of(0)?; LISTED];
     for i in 0..count.max(width) {

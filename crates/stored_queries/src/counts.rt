@@ -1,5 +1,5 @@
 // How many comparisons there are of each kind, how many agree, and which is the first that does not.
-use crate::asked::Query;
+use crate::asked::{QUERIES, Query};
 use std::io;
 use stored::{Tally, print_tally};
 
@@ -45,7 +45,7 @@ pub struct Counts {
     pub operations: Count,
     pub states: Count,
     pub work: Count,
-    pub queries: [Count; Query::COUNT],
+    pub queries: [Count; Query::COUNT], // by the case's number: no heap, so no map
 }
 
 impl Counts {
@@ -56,8 +56,8 @@ impl Counts {
         self.operations.print(rt, "operations")?;
         self.states.print(rt, "states")?;
         self.work.print(rt, "work afterwards")?;
-        for query in Query::ALL {
-            self.queries[query as usize].print(rt, query.name())?;
+        for (query, name) in QUERIES {
+            self.queries[query as usize].print(rt, name)?;
         }
         Ok(())
     }

@@ -24,9 +24,9 @@ impl<'a> Packed<'a> {
     }
 
     fn whole_word(&mut self) -> Option<u64> {
-        let mut words = Plain::new(self.bytes);
+        let mut words = Plain { bytes: self.bytes };
         let word = words.word();
-        self.bytes = words.rest();
+        self.bytes = words.bytes;
         word
     }
 }
@@ -48,7 +48,7 @@ impl<'a> Words for Packed<'a> {
     }
 }
 
-// The numbers, and 1.0, -1.0, -0.0 and 7.0 by their bits.
+// What a byte stands for: 1.0, -1.0, -0.0 and 7.0 by their bits, or its own number.
 fn coded(code: u8) -> u64 {
     match code {
         0xf0 => 0x3ff0000000000000,
