@@ -12,7 +12,7 @@ use lib.Dec.{eqb, ltb, eqb-suc-zero}
 use lib.ListN.{length, get_or}
 use borrow.Author.Tests.{eq-eqb, ne_eqb, eqb-true, eqb-false, lt-ltb, ltb-true, lt-leb, leb-false}
 use Rattle.laws.specs.Matrix.{Mat}
-use Rattle.laws.proofs.Cases.{eq-or-ne}
+use Rattle.std.proofs.lemmas.Bool.{cases_eq, or_parts, cond_both}
 use Rattle.pfaffian.specs.Shot.{bit}
 use Rattle.state.proofs.Permutations.{mode-below}
 use Rattle.queries.specs.Lists.{mode_listed, outside, noted, conflicts_of, contradicts, bits_ok, bit_listed, stop_place, asked}
@@ -20,14 +20,6 @@ use Rattle.queries.proofs.Marking.{noted_here, bits-asked}
 use Rattle.basis.specs.Holds.{Reads}
 use Rattle.basis.specs.Answers.{differs}
 use Rattle.basis.proofs.First.{first-before, first_passes}
-
-or_left : (s t : Bool) → (s || t) ≡ false → s ≡ false
-or_left true t e = e
-or_left false t e = refl
-
-or_right : (s t : Bool) → (s || t) ≡ false → t ≡ false
-or_right true t e = absurd (false≢true (sym e))
-or_right false t e = e
 
 -- ---- the places of a list
 
@@ -38,13 +30,13 @@ module _ (n : ℕ) (r : ℕ → Bool) where
   unfolding differs
   differs-each [] xs e d j h g = absurd (not-suc-le-zero h)
   differs-each (q ∷ qs) [] e d j h g = absurd (omega arith)
-  differs-each (q ∷ qs) (x ∷ xs) e d zero h g = sym (by (eqb (bit (r q)) x) refl (or_left _ (differs n r qs xs) d))
+  differs-each (q ∷ qs) (x ∷ xs) e d zero h g = sym (by (eqb (bit (r q)) x) refl (or_parts _ (differs n r qs xs) d).0)
     where
       by : (t : Bool) → eqb (bit (r q)) x ≡ t → (ltb q n && not t) ≡ false → bit (r q) ≡ x
       by true f c = eqb-true (bit (r q)) x f
       by false f c = absurd (false≢true (sym c ∙ rw (lt-ltb q n g)))
   differs-each (q ∷ qs) (x ∷ xs) e d (suc j) h g =
-      differs-each qs xs (omega arith) (or_right (ltb q n && not (eqb (bit (r q)) x)) (differs n r qs xs) d) j (omega arith) g
+      differs-each qs xs (omega arith) (or_parts (ltb q n && not (eqb (bit (r q)) x)) (differs n r qs xs) d).1 j (omega arith) g
 
   -- a place that lists a qubit below n and does not ask for its bit
   pub record Other (qs xs : List ℕ) : Type 0 where
@@ -96,17 +88,15 @@ module _ (m x : ℕ → ℕ) where
   noted_small : (i k : ℕ) → ((j : ℕ) → j < i → x j ≤ 1) → noted m x i k ≤ 2
   unfolding noted
   noted_small zero k h = omega arith
-  noted_small (suc i) k h = by (eqb (noted m x i k) 0 && eqb (m i) k) (noted_small i k (λ j g. h j (omega arith)))
-    where
-      by : (t : Bool) → noted m x i k ≤ 2 → cond t (suc (x i)) (noted m x i k) ≤ 2
-      by true c = omega (arith, h i (le_refl (suc i)))
-      by false c = c
+  noted_small (suc i) k h =
+      cond_both (eqb (noted m x i k) 0 && eqb (m i) k) _ _ (λ z. z ≤ 2)
+      (λ _. omega (arith, h i (le_refl (suc i)))) (λ _. (noted_small i k (λ j g. h j (omega arith))))
 
   -- what is noted stays: it is the bit of every place that contradicts nothing
   noted-place : (i j : ℕ) → j < i → contradicts m x j ≡ false → noted m x i (m j) ≡ suc (x j)
   unfolding noted
   noted-place zero j h c = absurd (not-suc-le-zero h)
-  noted-place (suc i) j h c = by (eq-or-ne j i) (noted-place i j)
+  noted-place (suc i) j h c = by (cases_eq j i) (noted-place i j)
     where
       by : (j ≡ i) ⊎ (j ≢ i) → (j < i → contradicts m x j ≡ false → noted m x i (m j) ≡ suc (x j)) → noted m x (suc i) (m j) ≡ suc (x j)
       by (inl q) f = ap (λ i. noted m x (suc i) (m j)) (sym q) ∙ rw add-one at (noted_here m x j (m j) refl c)
@@ -131,10 +121,10 @@ module _ (n : ℕ) (b r : ℕ → Bool) (e : Mat) (modes : List ℕ) (R : Reads 
     passed = first-before stops (length qs) 0 j (omega arith) h
 
     listed_below : get_or qs j 0 < n
-    listed_below = leb-false n (get_or qs j 0) (or_left (outside n qs j) (contradicts m x j) passed)
+    listed_below = leb-false n (get_or qs j 0) (or_parts (outside n qs j) (contradicts m x j) passed).0
 
     no-contradiction : contradicts m x j ≡ false
-    no-contradiction = or_right (outside n qs j) (contradicts m x j) passed
+    no-contradiction = (or_parts (outside n qs j) (contradicts m x j) passed).1
 
   -- the qubit's bit is its mode's
   place-agrees : differs n r qs xs ≡ false → (j : ℕ) → j < length qs → get_or qs j 0 < n → x j ≡ bit (b (m j))

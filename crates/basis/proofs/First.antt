@@ -4,14 +4,14 @@ use mathlib.Core.Logic.{◌⊎◌, inl, inr, ◌≢◌}
 use mathlib.Core.Bool.{Bool, true, false, cond}
 use Prim.Native.Nat.{ℕ, zero, suc, ◌+◌, ◌≤◌, ◌<◌}
 use native.Mathlib.Omega.{arith}
-use Rattle.laws.proofs.Cases.{eq-or-ne}
+use Rattle.std.proofs.lemmas.Bool.{cases_eq}
 use Rattle.queries.specs.Lists.{first_from, first}
 
 module _ (p : ℕ → Bool) where
   pub first-before : (n k i : ℕ) → k ≤ i → i < first_from p k n → p i ≡ false
   unfolding first_from
   first-before zero k i h g = absurd (omega arith)
-  first-before (suc n) k i h g = by (p k) refl g (eq-or-ne i k) (first-before n (suc k) i)
+  first-before (suc n) k i h g = by (p k) refl g (cases_eq i k) (first-before n (suc k) i)
     where
       by : (t : Bool) → p k ≡ t → i < cond t k (first_from p (suc k) n) → (i ≡ k) ⊎ (i ≢ k)
           → (suc k ≤ i → i < first_from p (suc k) n → p i ≡ false) → p i ≡ false

@@ -13,7 +13,7 @@ use lib.ListN.{length, get_or, length-append}
 use borrow.Author.Tests.{eq-eqb, ne_eqb}
 use Rattle.laws.specs.Dyadic.{Dy, with_sign}
 use Rattle.laws.specs.Matrix.{Mat}
-use Rattle.laws.proofs.Cases.{lt-or-le, eq-or-ne}
+use Rattle.std.proofs.lemmas.Bool.{cases_lt, cases_eq}
 use Rattle.state.specs.Bounds.{dim_of}
 use Rattle.monomial.specs.Basis.{basis, IsBasis}
 use Rattle.queries.specs.Lists.{oddly, passing}
@@ -25,7 +25,7 @@ use Rattle.queries.proofs.Searches.{odd-same, odd-none, last_snoc, early-snoc, A
 -- the pair r, r + 1 of the list is a pair of the modes
 pair_same : (u v r c : ℕ) → (u ≡ v → r / 2 ≡ c / 2) → (r / 2 ≡ c / 2 → u ≡ v)
     → (eqb ((2 * u + r % 2) % 2) 0 && eqb (2 * v + c % 2) (2 * u + r % 2 + 1)) ≡ (eqb (r % 2) 0 && eqb c (r + 1))
-pair_same u v r c to from = by (eq-or-ne (r % 2) 0) (eq-or-ne c (r + 1))
+pair_same u v r c to from = by (cases_eq (r % 2) 0) (cases_eq c (r + 1))
   where
     next : r % 2 ≡ 0 → c ≡ r + 1 → 2 * v + c % 2 ≡ 2 * u + r % 2 + 1
     next e f = let h : u ≡ v = from (omega arith) in omega arith
@@ -50,7 +50,7 @@ pair_same u v r c to from = by (eq-or-ne (r % 2) 0) (eq-or-ne c (r + 1))
 module _ (p : ℕ → Bool) (n : ℕ) (l : List ℕ) (up : Ascending p n l) where
   -- no mode is listed twice
   listed-once : (i j : ℕ) → i < length l → j < length l → get_or l i 0 ≡ get_or l j 0 → i ≡ j
-  listed-once i j h g e = by (lt-or-le i j) (lt-or-le j i)
+  listed-once i j h g e = by (cases_lt i j) (cases_lt j i)
     where
       by : (i < j) ⊎ (j ≤ i) → (j < i) ⊎ (i ≤ j) → i ≡ j
       by (inl a) b = absurd (let k = up.larger i j a g in omega arith)
@@ -97,7 +97,7 @@ odd-first p (suc n) = rw (odd-first p n) (by (p (suc n)) (p 0) (oddly (λ j. p (
 odd-turned : (f g : ℕ → Bool) (x n : ℕ) → x < n → ((k : ℕ) → k ≢ x → f k ≡ g k) → f x ≡ not (g x) → oddly f n ≡ not (oddly g n)
 unfolding oddly
 odd-turned f g x zero h same turned = absurd (not-suc-le-zero h)
-odd-turned f g x (suc n) h same turned = by (eq-or-ne x n) (odd-turned f g x n)
+odd-turned f g x (suc n) h same turned = by (cases_eq x n) (odd-turned f g x n)
   where
     here : (s o : Bool) → cond (not s) (not o) o ≡ not (cond s (not o) o)
     here false o = refl
@@ -174,7 +174,7 @@ odd-counted m b n (suc i) h = by (b (m i)) refl ∙ ap (λ o. cond (b (m i)) (no
 
         flips : (not (was (m i)) && b (m i)) ≡ not (was (m i) && b (m i))
         flips = rw e (turn (was (m i)))
-    by false e = odd-same f g n (λ k l. at k (eq-or-ne k (m i)))
+    by false e = odd-same f g n (λ k l. at k (cases_eq k (m i)))
       where
         still : (not (was (m i)) && b (m i)) ≡ (was (m i) && b (m i))
         still = rw e (and-false (not (was (m i))) ∙ sym (and-false (was (m i))))

@@ -1,7 +1,7 @@
 -- Marginals and basis indices on a basis state: the engine's answer, where it gives one, is the register's. Assumes nothing.
 use mathlib.Core.Path.{◌≡◌, refl, sym, ap, ◌∙◌}
 use mathlib.Core.Logic.{◌⊎◌, inl, inr, ◌≢◌}
-use mathlib.Core.Bool.{Bool, true, false, not, cond, ◌||◌}
+use mathlib.Core.Bool.{Bool, true, false, not, cond, ◌||◌, or-true}
 use mathlib.Core.List.{List}
 use Prim.Native.Nat.{ℕ, zero, suc, ◌≤◌, ◌<◌}
 use native.Mathlib.Nat.{not-suc-le-zero, le_refl}
@@ -11,8 +11,7 @@ use lib.ListN.{length, get_or}
 use lib.Ieee.{Float}
 use borrow.Author.Tests.{eq-eqb, ne_eqb, ltb-true, ltb-false, leb-false}
 use Rattle.laws.specs.Zeros.{+0, +1}
-use Rattle.laws.proofs.Cases.{eq-or-ne}
-use Rattle.laws.proofs.Views.{length-list_of, get_or-list_of}
+use Rattle.std.proofs.lemmas.Bool.{cases_eq}
 use Rattle.pfaffian.specs.Shot.{bit}
 use Rattle.state.specs.Questions.{state_ok}
 use Rattle.state.specs.Answers.{Told, accepted, refused}
@@ -21,7 +20,7 @@ use Rattle.queries.specs.Products.{dim_left}
 use Rattle.queries.specs.Marginals.{marked_of}
 use Rattle.queries.specs.Basis.{basis_bit_of}
 use Rattle.queries.specs.Calls.{covariance_of, work_ok, worked, stopped_of, marked_answer, marginal_probability_of, probability_of}
-use Rattle.queries.proofs.Indices.{all_qubits, basis_bits, basis-is-marginal}
+use Rattle.queries.proofs.Indices.{all_qubits, basis_bits, basis-is-marginal, qubits-long, bits-long, qubit-here, bit-here}
 use Rattle.basis.specs.Holds.{Reads}
 use Rattle.basis.specs.Answers.{differs, register_marginal, differs_from, register_probability}
 use Rattle.basis.proofs.Asked.{differs-each, differs-some, stopped-differs, asked-agrees, asked-differs, asked-small}
@@ -89,12 +88,8 @@ module _ (n : ℕ) (b r : ℕ → Bool) (s : List Float) (modes : List ℕ) (R :
     from_some : (m j : ℕ) → j < m → basis_bit_of low high j ≢ bit (r j) → differs_from low high r m ≡ true
     unfolding differs_from
     from_some zero j h ne = absurd (not-suc-le-zero h)
-    from_some (suc m) j h ne = by (eq-or-ne j m) (from_some m j)
+    from_some (suc m) j h ne = by (cases_eq j m) (from_some m j)
       where
-        or-true : (t : Bool) → (t || true) ≡ true
-        or-true true = refl
-        or-true false = refl
-
         by : (j ≡ m) ⊎ (j ≢ m) → (j < m → basis_bit_of low high j ≢ bit (r j) → differs_from low high r m ≡ true)
             → (differs_from low high r m || not (eqb (bit (r m)) (basis_bit_of low high m))) ≡ true
         by (inl q) f =
@@ -112,27 +107,18 @@ module _ (n : ℕ) (b r : ℕ → Bool) (s : List Float) (modes : List ℕ) (R :
     from_is : differs n r (all_qubits n) (basis_bits n low high) ≡ differs_from low high r n
     from_is = by (differs n r (all_qubits n) (basis_bits n low high)) refl
       where
-        qubits : length (all_qubits n) ≡ n
-        qubits = length-list_of n (λ q. q)
-
-        qubit : (j : ℕ) → j < n → get_or (all_qubits n) j 0 ≡ j
-        qubit j h = get_or-list_of {A = ℕ} n (λ q. q) j 0 h
-
-        asks : (j : ℕ) → j < n → get_or (basis_bits n low high) j 0 ≡ basis_bit_of low high j
-        asks j h = get_or-list_of {A = ℕ} n (basis_bit_of low high) j 0 h
-
         by : (t : Bool) → differs n r (all_qubits n) (basis_bits n low high) ≡ t → t ≡ differs_from low high r n
         by true d =
             let o = differs-some n r (all_qubits n) (basis_bits n low high) d in
             let j = o.at in
-            let h : j < n = omega (arith, qubits, o.within) in
-            sym (from_some n j h (λ z. o.other (asks j h ∙ z ∙ ap (λ k. bit (r k)) (sym (qubit j h)))))
+            let h : j < n = omega (arith, qubits-long n low high, o.within) in
+            sym (from_some n j h (λ z. o.other (bit-here n low high j h ∙ z ∙ ap (λ k. bit (r k)) (sym (qubit-here n low high j h)))))
         by false d =
             sym (from-none n (λ j h.
-            sym (asks j h)
-            ∙ differs-each n r (all_qubits n) (basis_bits n low high) (qubits ∙ sym (length-list_of n (basis_bit_of low high))) d j
-            (omega (arith, qubits)) (omega (arith, qubit j h))
-            ∙ ap (λ k. bit (r k)) (qubit j h)))
+            sym (bit-here n low high j h)
+            ∙ differs-each n r (all_qubits n) (basis_bits n low high) (qubits-long n low high ∙ sym (bits-long n low high)) d j
+            (omega (arith, qubits-long n low high)) (omega (arith, qubit-here n low high j h))
+            ∙ ap (λ k. bit (r k)) (qubit-here n low high j h)))
 
     pub probability-told : (w : List Float) → (probability_of n s modes low high w).number ≡ 0
         → probability_of n s modes low high w ≡ accepted (register_probability n r low high)

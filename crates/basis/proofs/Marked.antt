@@ -9,6 +9,7 @@ use lib.IntN.{ℤ, pos, negsuc, nat_abs, ◌+ℤ◌}
 use lib.ListN.{length, get_or}
 use lib.Ieee.{Float, binary64, add, sub, mul, neg, lt, fits}
 use borrow.Author.Tests.{eqb-true, not-false, lt-ltb}
+use Rattle.std.proofs.lemmas.Bool.{and_parts}
 use Rattle.laws.specs.Zeros.{+0, +1, sg}
 use Rattle.laws.specs.Dyadic.{Dy, with_sign}
 use Rattle.laws.specs.Matrix.{Mat}
@@ -16,7 +17,6 @@ use Rattle.laws.proofs.Integers.{abs-sign}
 use Rattle.laws.proofs.Dyadic.{neg-dy, add-dy, mul-dy, lower-dy, zero-dy}
 use Rattle.laws.proofs.DyadicOrder.{lt-dy}
 use Rattle.laws.proofs.Fit.{times-sign, sg-fits}
-use Rattle.laws.proofs.Tests.{and_left, and_right}
 use Rattle.monomial.specs.Basis.{IsBasis}
 use Rattle.pfaffian.specs.Pfaffian.{pfaffian_of}
 use Rattle.pfaffian.specs.Shot.{half, bit}
@@ -85,8 +85,8 @@ shifted-pairs dim x y a A r c hr hc = by (eqb (r % 2) 0 && eqb c (r + 1)) (eqb (
   where
     one-mode : (eqb (c % 2) 0 && eqb r (c + 1)) ≡ true → c / 2 ≡ r / 2
     one-mode e =
-        let even : c % 2 ≡ 0 = eqb-true (c % 2) 0 (and_left (eqb (c % 2) 0) (eqb r (c + 1)) e) in
-        let next : r ≡ c + 1 = eqb-true r (c + 1) (and_right (eqb (c % 2) 0) (eqb r (c + 1)) e) in
+        let even : c % 2 ≡ 0 = eqb-true (c % 2) 0 (and_parts (eqb (c % 2) 0) (eqb r (c + 1)) e).0 in
+        let next : r ≡ c + 1 = eqb-true r (c + 1) (and_parts (eqb (c % 2) 0) (eqb r (c + 1)) e).1 in
         omega arith
 
     by : (s t : Bool) → (eqb (c % 2) 0 && eqb r (c + 1)) ≡ t
@@ -206,7 +206,7 @@ module _ (n : ℕ) (b : ℕ → Bool) (e : Mat) (E : IsBasis (dim_of n) b e) (ma
   pub marked_differs : (k : ℕ) → k < n → mark k ≤ 2 → conflicts_of (mark k) (suc (bit (b k))) ≡ true → marked_of e n mark ≡ +0
   unfolding marked_of
   marked_differs k h small c =
-      let l = passing-all p n k h (and_left (ltb 0 (mark k)) (not (eqb (mark k) (suc (bit (b k))))) c) in
+      let l = passing-all p n k h ((and_parts (ltb 0 (mark k)) (not (eqb (mark k) (suc (bit (b k))))) c).0) in
       let zero : v l.0 ≡ pos 0 = ap (λ k. pair_of (b k) (is_one (mark k))) l.1.1 ∙ one-not (b k) (mark k) small c in
       zero-stays (oddly (λ k. is_one (mark k)) n) (pfaffian_of (2 * size) a)
       (pf-zero v w small-v small-w size a asked-pairs l.0 l.1.0 zero)

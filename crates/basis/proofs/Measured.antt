@@ -12,15 +12,15 @@ use lib.Signed.{lt_z}
 use lib.Ieee.{Float, nan, inf, fin, binary64, add, sub, mul, div, neg, lt, eq, le, below, level, fits, of_bits}
 use lib.Ieee.Fits.{add-fits, mul-fits}
 use borrow.Author.Tests.{ltb-true, le-ltb, eqb-true, eq-eqb, ne_eqb}
+use Rattle.laws.proofs.Integers.{one-small}
 use Rattle.laws.specs.Zeros.{+0, +1}
 use Rattle.laws.specs.Dyadic.{Dy, with_sign, cap}
 use Rattle.laws.specs.Matrix.{Mat}
-use Rattle.laws.proofs.Cases.{eq-or-ne}
+use Rattle.std.proofs.lemmas.Bool.{cases_eq, and_parts}
 use Rattle.laws.proofs.Zeros.{le-cong}
 use Rattle.laws.proofs.Dyadic.{neg-dy, add-dy, sub-dy, mul-dy, pow-dy, div-pow-dy, zero-nz, zero-dy}
 use Rattle.laws.proofs.DyadicFloat.{is-float}
 use Rattle.laws.proofs.DyadicOrder.{lt-dy}
-use Rattle.laws.proofs.Tests.{and_left, and_right}
 use Rattle.num.specs.Order.{clamp_of}
 use Rattle.monomial.specs.Basis.{basis, IsBasis}
 use Rattle.monomial.proofs.Moves.{basis-small}
@@ -74,7 +74,7 @@ below-above false false a b e =
     let h = ltb-true a b e in
     rw (le-ltb b a (omega arith), ne_eqb b a (λ q. omega arith))
 below-above false true a b e = absurd (false≢true e)
-below-above true false a b e = by (eq-or-ne b 0)
+below-above true false a b e = by (cases_eq b 0)
   where
     by : (b ≡ 0) ⊎ (b ≢ 0) → eqb b a && eqb b 0 ≡ false
     by (inl z) = rw (ne_eqb b a (λ q. omega (arith, ltb-true 0 (a + b) e)))
@@ -119,8 +119,8 @@ drawn-bit : (s : Bool) (x d : Float) → Dy 0 (with_sign s 1) x → draw_ok_of d
 drawn-bit false x d X ok =
     ap (λ (p : Float). le p d)
     (is-float 1 (pos 2) (p0 x) +1 (lit< tt) (mul-fits binary64 half (add binary64 +1 x)) one-fits (p0-dy false x X) (2, refl, refl))
-    ∙ above d +1 (and_right (le +0 d) (lt d +1) ok)
-drawn-bit true x d X ok = le-cong (p0 x) d +0 d (zero-nz 1 (p0 x) (p0-dy true x X)) refl ∙ and_left (le +0 d) (lt d +1) ok
+    ∙ above d +1 (and_parts (le +0 d) (lt d +1) ok).1
+drawn-bit true x d X ok = le-cong (p0 x) d +0 d (zero-nz 1 (p0 x) (p0-dy true x X)) refl ∙ (and_parts (le +0 d) (lt d +1) ok).0
 
 -- ---- the denominator
 
@@ -150,11 +150,7 @@ not-tiny = refl
 
 -- f is 1/2 or -1/2
 factor-dy : (s : Bool) → Dy 1 (with_sign s 1) (div binary64 (spin_of s) two)
-factor-dy s = div-pow-dy 1 0 (with_sign s 1) (spin_of s) (lit≤ tt) (small s) (spin-dy s)
-  where
-    small : (s : Bool) → nat_abs (with_sign s 1) < cap
-    small false = lit< tt
-    small true = lit< tt
+factor-dy s = div-pow-dy 1 0 (with_sign s 1) (spin_of s) (lit≤ tt) (one-small s) (spin-dy s)
 
 -- ---- the covariance of bits
 
@@ -173,7 +169,7 @@ across : (b : ℕ → Bool) (r c : ℕ) → neg_ℤ (basis b c r) ≡ basis b r 
 across b r c = by (b (r / 2)) (b (c / 2)) (pair r c) (pair c r) refl refl
   where
     next-to : (r c : ℕ) → pair r c ≡ true → c ≡ r + 1
-    next-to r c e = eqb-true c (r + 1) (and_right (eqb (r % 2) 0) (eqb c (r + 1)) e)
+    next-to r c e = eqb-true c (r + 1) (and_parts (eqb (r % 2) 0) (eqb c (r + 1)) e).1
 
     by : (x y p q : Bool) → pair r c ≡ p → pair c r ≡ q
         → neg_ℤ (cond q (with_sign y 1) (cond p (with_sign (not x) 1) (pos 0))) ≡ cond p (with_sign x 1) (cond q (with_sign (not y) 1) (pos 0))

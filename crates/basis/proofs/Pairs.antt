@@ -3,7 +3,7 @@
 -- 0. Up to the signs of zeros. Assumes nothing.
 use mathlib.Core.Path.{◌≡◌, refl, sym, ap, ◌∙◌, subst}
 use mathlib.Core.Logic.{◌⊎◌, inl, inr, ◌≢◌}
-use mathlib.Core.Bool.{Bool, true, false, not, cond, ◌&&◌, and-false}
+use mathlib.Core.Bool.{Bool, true, false, not, cond, ◌&&◌}
 use Prim.Native.Nat.{ℕ, zero, suc, ◌+◌, ◌-◌, ◌*◌, ◌/◌, ◌%◌, ◌≤◌, ◌<◌}
 use native.Mathlib.Nat.{le_refl, add-zero, zero-add, mul-le-mul, lt_of_le_of_lt, eq-zero-or-pos, not-suc-le-zero}
 use native.Mathlib.Omega.{arith}
@@ -12,10 +12,11 @@ use lib.IntN.{ℤ, pos, nat_abs, ◌*ℤ◌, +ℤ_idr, zero-*ℤ, *ℤ-zero}
 use lib.Ieee.{Float, binary64, unlike, add, mul, div, neg, eq, fits}
 use lib.Ieee.Fits.{mul-fits, cond-fits}
 use borrow.Author.Tests.{eq-eqb, ne_eqb, le-ltb}
+use Rattle.laws.proofs.Tests.{no-pair}
 use Rattle.laws.specs.Zeros.{+0, +1, sg}
 use Rattle.laws.specs.Dyadic.{Dy, with_sign, cap}
 use Rattle.laws.specs.Matrix.{Mat}
-use Rattle.laws.proofs.Cases.{eq-or-ne}
+use Rattle.std.proofs.lemmas.Bool.{cases_eq}
 use Rattle.laws.proofs.Integers.{sign_of, sign-abs, sign_zero, sign-mul, abs-sign}
 use Rattle.laws.proofs.Dyadic.{neg-dy, add-dy, mul-dy, zero-div-dy}
 use Rattle.laws.proofs.DyadicOrder.{lt-dy, eq-dy}
@@ -58,7 +59,7 @@ module _ (v : ℕ → ℤ) (units : Units v) where
 
 pub product-zero : (v : ℕ → ℤ) (p j : ℕ) → j < p → v j ≡ pos 0 → product v p ≡ pos 0
 product-zero v zero j h e = absurd (not-suc-le-zero h)
-product-zero v (suc p) j h e = by (eq-or-ne j p) (product-zero v p j)
+product-zero v (suc p) j h e = by (cases_eq j p) (product-zero v p j)
   where
     by : (j ≡ p) ⊎ (j ≢ p) → (j < p → v j ≡ pos 0 → product v p ≡ pos 0) → product v p *ℤ v p ≡ pos 0
     by (inl q) rest = ap (λ (z : ℤ). product v p *ℤ z) (ap v (sym q) ∙ e) ∙ *ℤ-zero (product v p)
@@ -88,14 +89,7 @@ IsPairs dim v w a = (r c : ℕ) → r < dim → c < dim → Dy 0 (pairs v w r c)
 
 -- r and c are no pair
 not-pair : (r c : ℕ) → r / 2 ≢ c / 2 → (eqb (r % 2) 0 && eqb c (r + 1)) ≡ false
-not-pair r c n = by (eq-or-ne c (r + 1))
-  where
-    one-pair : r % 2 ≡ 0 → c ≡ r + 1 → r / 2 ≡ c / 2
-    one-pair h k = omega arith
-
-    by : (c ≡ r + 1) ⊎ (c ≢ r + 1) → (eqb (r % 2) 0 && eqb c (r + 1)) ≡ false
-    by (inl e) = rw (ne_eqb (r % 2) 0 (λ d. n (one-pair d e)))
-    by (inr e) = rw (ne_eqb c (r + 1) e) (and-false (eqb (r % 2) 0))
+not-pair r c n = no-pair r c (λ h k. n (omega arith))
 
 module _ (v w : ℕ → ℤ) where
   pub pairs-apart : (r c : ℕ) → r / 2 ≢ c / 2 → pairs v w r c ≡ pos 0

@@ -10,11 +10,12 @@ use lib.Dec.{lit≤}
 use lib.IntN.{ℤ, pos, one, nat_abs, neg_ℤ-neg_ℤ, *ℤ-one}
 use lib.Ieee.{Float, binary64, mul, neg, lt}
 use borrow.Author.Tests.{le-leb, lt-leb}
+use Rattle.laws.proofs.Zeros.{lt-sign}
 use Rattle.laws.specs.Zeros.{+0, +1, sg}
 use Rattle.laws.specs.Dyadic.{Dy, cap}
 use Rattle.laws.specs.Matrix.{Mat}
 use Rattle.laws.specs.Maps.{Local, inside, rows, cols}
-use Rattle.laws.proofs.Cases.{lt-or-le, eq-or-ne}
+use Rattle.std.proofs.lemmas.Bool.{cases_lt, cases_eq}
 use Rattle.laws.proofs.Integers.{abs_neg}
 use Rattle.laws.proofs.Negatives.{mul-sg}
 use Rattle.laws.proofs.Dyadic.{neg-dy, mul-dy}
@@ -31,7 +32,7 @@ use Rattle.basis.specs.Holds.{HoldsBits}
 
 -- an entry is within a mode, or a zero
 mode-or-zero : (b : ℕ → Bool) (r c : ℕ) → (r / 2 ≡ c / 2) ⊎ (basis b r c ≡ pos 0)
-mode-or-zero b r c = ⊎_map (λ e. e) (basis-apart b r c) (eq-or-ne (r / 2) (c / 2))
+mode-or-zero b r c = ⊎_map (λ e. e) (basis-apart b r c) (cases_eq (r / 2) (c / 2))
 
 signed-twice : (x : Bool) (z : ℤ) → signed x (signed x z) ≡ z
 signed-twice false z = refl
@@ -73,7 +74,7 @@ module _ (k w : ℕ) (q : Mat) (r c : ℕ) (e : r / 2 ≡ c / 2) where
   o = modes_at k w q
 
   inside-mode : inside o r ≡ inside o c
-  inside-mode = by (lt-or-le r (2 * k)) (lt-or-le r (2 * k + 2 * w))
+  inside-mode = by (cases_lt r (2 * k)) (cases_lt r (2 * k + 2 * w))
     where
       by : (r < 2 * k) ⊎ (2 * k ≤ r) → (r < 2 * k + 2 * w) ⊎ (2 * k + 2 * w ≤ r) → inside o r ≡ inside o c
       by (inl h) g = inside-below o r h ∙ sym (inside-below o c (omega arith))
@@ -81,18 +82,13 @@ module _ (k w : ℕ) (q : Mat) (r c : ℕ) (e : r / 2 ≡ c / 2) where
       by (inr h) (inr g) = inside-above o r g ∙ sym (inside-above o c (omega arith))
 
   later-mode : later o r ≡ later o c
-  later-mode = by (lt-or-le r (2 * k + 2 * w))
+  later-mode = by (cases_lt r (2 * k + 2 * w))
     where
       by : (r < 2 * k + 2 * w) ⊎ (2 * k + 2 * w ≤ r) → later o r ≡ later o c
       by (inl h) = lt-leb (2 * k + 2 * w) r h ∙ sym (lt-leb (2 * k + 2 * w) c (omega arith))
       by (inr h) = le-leb (2 * k + 2 * w) r h ∙ sym (le-leb (2 * k + 2 * w) c (omega arith))
 
 -- ---- a sign of d
-
-below_one : (s : Bool) → lt (sg s +1) +0 ≡ s
-unfolding lt neg
-below_one false = refl
-below_one true = refl
 
 -- after a step, of an index in the map or not, that is turned or not
 abbrev stepped : Bool → Bool → Float → Float
@@ -113,7 +109,7 @@ stepped-one true true true = (true, refl)
 
 module _ (n : ℕ) (b : ℕ → Bool) (t : State) (H : HoldsBits n b t) where
   sign-in : (k i : ℕ) (h : k < n) → i / 2 ≡ k → t.d i ≡ sg (H.signs k h).0 +1
-  sign-in k i h e = by (eq-or-ne (i % 2) 0)
+  sign-in k i h e = by (cases_eq (i % 2) 0)
     where
       even : i % 2 ≡ 0 → i ≡ 2 * k
       even z = omega arith
@@ -138,7 +134,7 @@ module _ (n : ℕ) (b : ℕ → Bool) (t : State) (H : HoldsBits n b t) where
   sign-is i h =
       let g : i / 2 < n = omega arith in
       let e = sign-in (i / 2) i g refl in
-      e ∙ ap (λ (s : Bool). sg s +1) (sym (ap (λ (x : Float). lt x +0) e ∙ below_one (H.signs (i / 2) g).0))
+      e ∙ ap (λ (s : Bool). sg s +1) (sym (ap (λ (x : Float). lt x +0) e ∙ lt-sign (H.signs (i / 2) g).0))
 
   -- as it is read: "m times its row's d, then its column's"
   pub get-basis : IsBasis (dim_of n) b (get t)

@@ -14,7 +14,7 @@ use borrow.Author.Tests.{lt-ltb, le-ltb, ltb-false, not-false}
 use Rattle.laws.specs.Zeros.{+0}
 use Rattle.laws.specs.Matrix.{Mat}
 use Rattle.laws.specs.Tables.{mode_at}
-use Rattle.laws.proofs.Cases.{lt-or-le}
+use Rattle.std.proofs.lemmas.Bool.{cases_lt}
 use Rattle.laws.proofs.Views.{up_same}
 use Rattle.monomial.specs.Basis.{IsBasis}
 use Rattle.pfaffian.specs.Shot.{draw_from, qubit_bit, word_of, shot, after_mode, reached, outcome}
@@ -51,7 +51,7 @@ module _ (n : ℕ) (b : ℕ → Bool) (e : Mat) (t : ℕ → Float) (E : IsBasis
 module _ (n : ℕ) (b r : ℕ → Bool) (e : Mat) (modes : List ℕ) (R : Reads n b r e modes) where
   module _ (t : ℕ → Float) (ok : (k : ℕ) → k < n → draw_ok_of (t k) ≡ true) where
     bit_is : (q : ℕ) → qubit_bit (mode_at modes) n (shot e 0 n t) q ≡ shot_bit n r q
-    bit_is q = by (lt-or-le q n)
+    bit_is q = by (cases_lt q n)
       where
         by : (q < n) ⊎ (n ≤ q) → qubit_bit (mode_at modes) n (shot e 0 n t) q ≡ shot_bit n r q
         by (inl h) =
@@ -81,7 +81,7 @@ module _ (n : ℕ) (b r : ℕ → Bool) (e : Mat) (modes : List ℕ) (R : Reads 
 
     sampled-is : (out : List ℕ) → sampled e n modes shots draws out ≡ register_shots n r shots out
     unfolding sampled register_shots
-    sampled-is out = up_same {A = ℕ} _ _ 0 (length out) (λ j _ _. by j (lt-or-le j (2 * shots)))
+    sampled-is out = up_same {A = ℕ} _ _ 0 (length out) (λ j _ _. by j (cases_lt j (2 * shots)))
       where
         by : (j : ℕ) → (j < 2 * shots) ⊎ (2 * shots ≤ j)
             → cond (ltb j (2 * shots)) (word_at (shot_at e n modes draws (j / 2)) (j % 2)) (get_or out j 0)

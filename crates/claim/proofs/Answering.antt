@@ -8,9 +8,9 @@ use lib.Dec.{leb, ltb}
 use lib.ListN.{get_or, length}
 use lib.Ieee.{Float}
 use borrow.Author.Tests.{le-leb}
+use Rattle.std.proofs.lemmas.Bool.{and_parts}
 use Rattle.laws.specs.Zeros.{+0}
 use Rattle.laws.specs.Bounds.{max_qubits}
-use Rattle.laws.proofs.Tests.{and_left, and_right}
 use Rattle.tape.specs.Parse.{Content, accepted, parse}
 use Rattle.tape.specs.declared.header.Header.{Header}
 use Rattle.local.specs.Bounds.{state_places}
@@ -63,8 +63,8 @@ module _ (n : ℕ) (s : List Float) (modes : List ℕ) (ok : state_ok n s modes 
       → (marginal_probability_of n s modes qs xs w).number ≡ 0
   unfolding marginal_probability_of stopped_of
   marginal-answered qs xs w p =
-      rw (ok, and_left (bits_ok qs xs) (list_passes n modes qs xs w) p)
-      (by (ltb place (length qs)) (leb n (get_or qs place 0)) (and_right (bits_ok qs xs) (list_passes n modes qs xs w) p))
+      rw (ok, (and_parts (bits_ok qs xs) (list_passes n modes qs xs w) p).0)
+      (by (ltb place (length qs)) (leb n (get_or qs place 0)) (and_parts (bits_ok qs xs) (list_passes n modes qs xs w) p).1)
     where
       place : ℕ
       place = stop_place n modes qs xs
@@ -97,8 +97,8 @@ module _ (n : ℕ) (s : List Float) (modes : List ℕ) (ok : state_ok n s modes 
   query-answered (probability low high w) p =
       rw ok (worked-answered (dim_left (noted_modes n (basis_mark n modes low high))) (marked_of (covariance_of n s) n (basis_mark n modes low high)) w p)
   query-answered (sample shots draws w out) p =
-      rw (ok, and_left (work_ok (dim_of n) w) (shots_pass n shots draws out) p)
-      (shots-answered shots draws out (and_right (work_ok (dim_of n) w) (shots_pass n shots draws out) p))
+      rw (ok, (and_parts (work_ok (dim_of n) w) (shots_pass n shots draws out) p).0)
+      (shots-answered shots draws out (and_parts (work_ok (dim_of n) w) (shots_pass n shots draws out) p).1)
 
 -- ---- queries
 

@@ -7,7 +7,7 @@ use Prim.Native.Nat.{ℕ, ◌<◌}
 use lib.Dec.{eqb}
 use borrow.Author.Tests.{eq-eqb, ne_eqb}
 use Rattle.laws.specs.Lists.{All}
-use Rattle.laws.proofs.Cases.{eq-or-ne}
+use Rattle.std.proofs.lemmas.Bool.{cases_eq}
 use Rattle.resolve.specs.Items.{Item, one, two, opaque, ItemBelow}
 use Rattle.register.specs.Bits.{turned_of, first_of, second_of, item_bits, items_run}
 use Rattle.claim.specs.Modes.{mode_bits, modes_run}
@@ -19,7 +19,7 @@ pub record Apart (n : ℕ) (pos : ℕ → ℕ) : Type 0 where
 
 module _ (n : ℕ) (pos : ℕ → ℕ) (p : Apart n pos) where
   same-mode : (v w : ℕ) → v < n → w < n → eqb (pos w) (pos v) ≡ eqb w v
-  same-mode v w lv lw = by (eq-or-ne w v)
+  same-mode v w lv lw = by (cases_eq w v)
     where
       by : (w ≡ v) ⊎ (w ≢ v) → eqb (pos w) (pos v) ≡ eqb w v
       by (inl e) = eq-eqb (pos w) (pos v) (ap pos e) ∙ sym (eq-eqb w v e)

@@ -1,6 +1,6 @@
 -- A diagonal block changes no bit: its rotations keep them, and so does an interaction. Assumes nothing.
 use mathlib.Core.Path.{◌≡◌, sym, ◌∙◌, subst}
-use mathlib.Core.Bool.{Bool, true, false, not, cond, ◌&&◌}
+use mathlib.Core.Bool.{Bool, true, false, not, cond, ◌&&◌, false≢true}
 use mathlib.Core.List.{[], ◌∷◌, ◌++◌}
 use Prim.Native.Nat.{ℕ, ◌<◌, ◌≤◌}
 use Rattle.laws.specs.Bounds.{max_qubits}
@@ -32,18 +32,15 @@ pub record Phased (v : Mat4) : Type 0 where
   pub a : IsEntry (phase_a_of v) (unit first)
   pub b : IsEntry (phase_b_of v) (unit second)
 
-clash : {A : Type 0} → false ≡ true → A
-clash e = absurd (subst (λ (t : Bool). cond t ⊥ (Unit {0})) e tt)
-
 pub diagonal-phased : (v : Mat4) (c : Mono4) → Has4 v c → diagonal c ≡ true → Phased v
 diagonal-phased v c h d = by c.swap c.turn_a c.turn_b c.phases h d
   where
     by : (s f g : Bool) (p : Four Phase) → Mat4Of IsEntry v (entries4 s f g p) → (not s && (not f && not g)) ≡ true → Phased v
     by false false false (four k l m n) h d =
         record { first = m ⊕ minus k; second = l ⊕ minus k; a = phase-a v k l m n h; b = phase-b v k l m n h }
-    by false false true p h d = clash d
-    by false true g p h d = clash d
-    by true f g p h d = clash d
+    by false false true p h d = absurd (false≢true d)
+    by false true g p h d = absurd (false≢true d)
+    by true f g p h d = absurd (false≢true d)
 
 -- ---- rotations
 

@@ -5,6 +5,7 @@ use mathlib.Core.List.{List, [], ◌∷◌}
 use Prim.Native.Nat.{ℕ, ◌+◌}
 use native.Mathlib.Omega.{arith}
 use lib.Ieee.{Float}
+use Rattle.evolve.proofs.Programs.{match-beside}
 use Rattle.laws.specs.Lists.{All}
 use Rattle.gate.specs.declared.matrix.Mat4.{Mat4}
 use Rattle.majorana.specs.Majorana.{majorana_map2_of}
@@ -26,12 +27,8 @@ all-free tol pos (x ∷ xs) e =
 
 -- a matchgate on modes that are not neighbours is bad
 pub beside : (i j : ℕ) (r : Float) (v : Mat4) → (two_share matchgate i j r v).bad ≡ 0 → beside_of i j ≡ true
-unfolding two_share match_share
-beside i j r v = by (beside_of i j)
-  where
-    by : (t : Bool) → (cond t (adjacent_share r (majorana_map2_of (oriented_of i j v))) apart).bad ≡ 0 → t ≡ true
-    by true e = refl
-    by false e = absurd (omega arith)
+unfolding two_share
+beside = match-beside
 
 -- what is neither is bad
 pub not-neither : (i j : ℕ) (r : Float) (v : Mat4) → (two_share neither i j r v).bad ≡ 0 → ⊥

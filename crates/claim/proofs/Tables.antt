@@ -7,6 +7,7 @@ use native.Mathlib.Omega.{arith}
 use lib.Dec.{eqb}
 use lib.ListN.{length}
 use borrow.Author.Tests.{ne_eqb, lt-ltb, le-leb}
+use Rattle.state.proofs.Permutations.{modes-fit}
 use Rattle.laws.specs.Tables.{mode_at}
 use Rattle.laws.specs.Bounds.{max_qubits}
 use Rattle.laws.proofs.Tests.{all_of}
@@ -25,13 +26,8 @@ use Rattle.claim.specs.Queries.{Begins}
 permutation-is : (n : ℕ) (l : List ℕ) → n ≤ length l → ((q : ℕ) → q < n → mode_at l q < n)
     → ((p q : ℕ) → p < n → q < n → mode_at l p ≡ mode_at l q → p ≡ q) → is_permutation n l ≡ true
 unfolding is_permutation
-permutation-is n l long below apart = rw (le-leb n (length l) long) (all_of (mode_ok n l) n ok)
-  where
-    ok : (q : ℕ) → q < n → mode_ok n l q ≡ true
-    ok q h =
-        rw (lt-ltb (mode_at l q) n (below q h))
-        (all_of (λ p. not (eqb (mode_at l p) (mode_at l q))) q
-        (λ p g. ap not (ne_eqb (mode_at l p) (mode_at l q) (λ e. omega (arith, apart p q (omega arith) h e)))))
+permutation-is n l long below apart =
+    rw (le-leb n (length l) long) (modes-fit n l below (λ p q g h e. omega (arith, apart p q (omega arith) h e)))
 
 table-long : (h : Header) (gs : List Gate) → length (reported_of h gs).modes ≡ max_qubits
 unfolding reported_of report_of

@@ -2,44 +2,27 @@
 -- and factors may change places. The first since x + x has twice the value of x, so that the quotient's fraction is that of x again; the others
 -- by the definition of `round`. Assumes nothing.
 use mathlib.Core.Path.{◌≡◌, refl, sym, ap, ◌∙◌, subst}
-use mathlib.Core.Logic.{◌⊎◌, inl, inr}
-use mathlib.Core.Bool.{Bool, true, false, cond, ◌&&◌}
-use Prim.Native.Nat.{ℕ, zero, suc, ◌+◌, ◌-◌, ◌*◌, ◌%◌, ◌^◌, ◌≤◌, ◌<◌}
-use native.Mathlib.Nat.{
-  mul-one,
-  one-mul,
-  zero-mul,
-  zero-add,
-  mul_comm,
-  mul_assoc,
-  mul_left_comm,
-  mul-pos,
-  pow-suc,
-  zero-lt-suc,
-  sub-zero,
-  le_trans,
-  le_of_eq,
-  le_of_lt,
-  lt_of_lt_of_le,
-  lt_irrefl,
-}
+use mathlib.Core.Logic.{⊎_elim}
+use mathlib.Core.Bool.{Bool, true, false, cond}
+use Prim.Native.Nat.{ℕ, zero, suc, ◌+◌, ◌*◌, ◌^◌, ◌<◌}
+use native.Mathlib.Nat.{mul-one, zero-mul, mul_comm, mul_assoc, mul_left_comm, mul-pos, pow-suc, le_trans, le_of_eq, le_of_lt}
 use native.Mathlib.Omega.{arith}
-use lib.Dec.{T, leb, ltb, eqb, leb→le, ltb→lt, lit<}
+use lib.Dec.{T, eqb, lit<}
 use lib.IntN.{ℤ, pos, negsuc}
-use lib.Pow.{pow_pos, pow-add, pow-lt, shl_lt}
+use lib.Pow.{pow_pos, pow-add, shl_lt}
 use lib.Ieee.{Float, nan, inf, fin, binary64, up, down, round, sum, add, mul, div, neg, le, lt, eq, unlike, fits, of_bits}
 use lib.Ieee.Exact.{HasValue, round_exact}
-use lib.Ieee.Fits.{down_pos, and_l, and_r}
+use lib.Ieee.Fits.{down_pos}
 use lib.Ieee.Order.{round_mono}
 use lib.Ieee.Scale.{finite, round_same}
-use borrow.Author.Tests.{lt-ltb}
 use Rattle.laws.specs.Zeros.{+0, nz, sg}
-use Rattle.laws.specs.Dyadic.{cap, finest}
-use Rattle.laws.proofs.Cases.{lt-or-le}
+use Rattle.laws.specs.Dyadic.{finest}
+use Rattle.std.proofs.lemmas.Bool.{cases_lt}
 use Rattle.laws.proofs.Dyadic.{round-value}
 use Rattle.laws.proofs.Negatives.{unlike-false, round-neg}
-use Rattle.laws.proofs.Fit.{round-self}
-use Rattle.laws.proofs.Zeros.{flat, den, round-zero}
+use Rattle.laws.proofs.Fit.{pow-back, of_fits, round-self}
+use Rattle.laws.proofs.FirstTerms.{lead}
+use Rattle.laws.proofs.Zeros.{nz-nz, flat, den, round-zero}
 use Rattle.gate.specs.Complex.{f2}
 
 -- ---- x + x
@@ -57,9 +40,6 @@ room-sg true nan h = h
 room-sg true (inf s) h = h
 room-sg true (fin s m e) h = h
 
-twofold : (k : ℕ) → k + k ≡ k * 2
-twofold k = omega arith
-
 -- the fraction of the sum
 sum_is : (s : Bool) (m : ℕ) (e : ℤ) → add binary64 (fin s m e) (fin s m e) ≡ round binary64 s (m * up e * 2) (down e)
 unfolding add sum
@@ -67,7 +47,7 @@ sum_is s m e =
     let a = m * up e * down e in
     alike s a (down e * down e)
     ∙ round_same binary64 s (a + a) (down e * down e) (m * up e * 2) (down e) (den e e) (down_pos e)
-    (ap (λ (k : ℕ). k * down e) (twofold a) ∙ simp (mul_assoc, mul_comm, mul_left_comm))
+    (ap (λ (k : ℕ). k * down e) (let t : a + a ≡ a * 2 = omega arith in t) ∙ simp (mul_assoc, mul_comm, mul_left_comm))
   where
     alike : (s : Bool) (a c : ℕ) → sum binary64 s a s a c ≡ round binary64 s (a + a) c
     alike true a c = refl
@@ -91,14 +71,13 @@ not-above (inf s) h k = h
 not-above (fin s m e) h k = k
 
 below_top : (a c : ℕ) → 0 < c → T (finite (round binary64 false a c)) → a < 2 ^ 1024 * c
-below_top a c C h = by (lt-or-le a (2 ^ 1024 * c))
-  where
-    by : (a < 2 ^ 1024 * c) ⊎ (2 ^ 1024 * c ≤ a) → a < 2 ^ 1024 * c
-    by (inl l) = l
-    by (inr l) =
-        absurd (not-above (round binary64 false a c) h
-        (subst (λ (z : Float). T (le z (round binary64 false a c))) top-inf
-        (round_mono binary64 (2 ^ 1024) 1 a c (lit< tt) C (le_trans l (le_of_eq (sym (mul-one a)))))))
+below_top a c C h =
+    ⊎_elim (λ l. l)
+    (λ l. absurd (not-above (round binary64 false a c) h
+    (subst (λ (z : Float). T (le z (round binary64 false a c))) top-inf
+    (round_mono binary64 (2 ^ 1024) 1 a c (lit< tt) C (le_trans l (le_of_eq (sym (mul-one a)))))))
+    )
+    (cases_lt a (2 ^ 1024 * c))
 
 either-sign : (s : Bool) (a c : ℕ) → T (finite (round binary64 s a c)) → T (finite (round binary64 false a c))
 either-sign false a c h = h
@@ -114,24 +93,6 @@ room_of (fin s m e) h =
 
 -- ---- a half of it
 
--- of the tests of `fits`: the significand is small, and 2 ^ e is no less than the smallest float
-small : (s : Bool) (m : ℕ) (e : ℤ) → T (fits binary64 (fin s (suc m) e)) → (suc m < cap) × (down e ≤ 2 ^ finest)
-unfolding fits
-small s m e p =
-    let A = eqb (suc m % 2) 1 in
-    let B = ltb (suc m) cap in
-    let C = leb (down e) (2 ^ finest) in
-    let D = ltb (suc m * up e) (2 ^ 1024 * down e) in
-    let q = and_l (A && B && C) D p in
-    (ltb→lt (suc m) cap (and_r A B (and_l (A && B) C q)), leb→le (down e) (2 ^ finest) (and_r (A && B) C q))
-
-pow-back : (a b : ℕ) → 2 ^ a ≤ 2 ^ b → a ≤ b
-pow-back a b h = by (lt-or-le b a)
-  where
-    by : (b < a) ⊎ (a ≤ b) → a ≤ b
-    by (inl l) = absurd (lt_irrefl (2 ^ b) (lt_of_lt_of_le (pow-lt l) h))
-    by (inr l) = l
-
 -- the sum has its value
 value-is : (s : Bool) (m : ℕ) (e : ℤ) → T (fits binary64 (fin s m e)) → m * up e * 2 < 2 ^ 1024 * down e
     → HasValue (round binary64 s (m * up e * 2) (down e)) s (m * up e * 2) (down e)
@@ -141,15 +102,15 @@ value-is s zero e p r =
 value-is s (suc m) (pos a) p r =
     let e : suc m * 2 ^ (a + suc finest) ≡ suc m * 2 ^ a * 2 * 2 ^ finest
     = ap (λ (y : ℕ). suc m * y) (pow-add 2 a (suc finest)) ∙ shift (suc m) (2 ^ a) (2 ^ finest) in
-    round_exact binary64 s (suc m * 2 ^ a * 2) 1 (suc m) (a + suc finest) (lit< tt) (small s m (pos a) p).0
+    round_exact binary64 s (suc m * 2 ^ a * 2) 1 (suc m) (a + suc finest) (lit< tt) (of_fits s m (pos a) p).0
     (subst (λ (y : ℕ). y < 2 ^ (finest + 1024)) (sym e) (shl_lt 1024 finest r))
     (sym e ∙ sym (mul-one (suc m * 2 ^ (a + suc finest))))
   where
     shift : (k x y : ℕ) → k * (x * (2 * y)) ≡ k * x * 2 * y
     shift k x y = simp (mul_assoc, mul_comm, mul_left_comm)
 value-is s (suc m) (negsuc a) p r =
-    round-value s (suc m * 1 * 2) (2 ^ suc a) (suc m) a (pow_pos (suc a)) (small s m (negsuc a) p).0
-    (le_of_lt (pow-back (suc a) finest (small s m (negsuc a) p).1))
+    round-value s (suc m * 1 * 2) (2 ^ suc a) (suc m) a (pow_pos (suc a)) (of_fits s m (negsuc a) p).0
+    (le_of_lt (pow-back (suc a) finest (of_fits s m (negsuc a) p).1.0))
     (shift (suc m) (2 ^ a) ∙ ap (λ (y : ℕ). suc m * y) (sym (pow-suc 2 a)))
   where
     shift : (k x : ℕ) → k * 1 * 2 * x ≡ k * (x * 2)
@@ -176,27 +137,9 @@ half (fin s m e) p r =
 
 -- ---- zeros
 
--- 0 - b / c
-from_zero : (b c : ℕ) → 0 < c → nz (cond (ltb 0 b) (round binary64 true (b - 0) c) (round binary64 false (0 - b) c)) ≡ nz (round binary64 true b c)
-from_zero zero c C = round-zero false c C ∙ sym (round-zero true c C)
-from_zero (suc b) c C = rw (lt-ltb 0 (suc b) (zero-lt-suc b), sub-zero (suc b))
-
 -- 0.0 + x, with no sign of a zero
 pub zero-plus : (x : Float) → T (fits binary64 x) → nz (add binary64 +0 x) ≡ nz x
-unfolding add sum
-zero-plus nan p = refl
-zero-plus (inf s) p = refl
-zero-plus (fin false n d) p =
-    (λ i. nz (round binary64 false (flat 1 (down d) i + n * up d * 1) (1 * down d)))
-    ∙ (λ i. nz (round binary64 false ((zero-add (n * up d * 1) ∙ mul-one (n * up d)) i) (one-mul (down d) i)))
-    ∙ ap nz (round-self false n d p)
-zero-plus (fin true n d) p =
-    let b = n * up d * 1 in
-    let c = 1 * down d in
-    (λ i. nz (cond (ltb (zero-mul (down d) i) b) (round binary64 true (b - zero-mul (down d) i) c) (round binary64 false (zero-mul (down d) i - b) c)))
-    ∙ from_zero b c (den (pos 0) d)
-    ∙ (λ i. nz (round binary64 true (mul-one (n * up d) i) (one-mul (down d) i)))
-    ∙ ap nz (round-self true n d p)
+zero-plus x p = ap nz (lead x p) ∙ nz-nz x
 
 -- a zero times a finite number
 pub zero-times : (x : Float) → T (finite x) → nz (mul binary64 +0 x) ≡ +0

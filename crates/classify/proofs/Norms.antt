@@ -11,3 +11,6 @@ below-infinity nan h = refl
 below-infinity (inf true) h = absurd (false≢true h)
 below-infinity (inf false) h = refl
 below-infinity (fin s m e) h = refl
+
+-- for the attribute of `divisor`
+pub ruleset norms = (below-infinity)

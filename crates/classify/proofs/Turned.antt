@@ -10,6 +10,7 @@ use lib.Ieee.{Float, nan, inf, fin, binary64, add, sub, mul, div, neg, lt, fits,
 use lib.Ieee.Bits.{of_bits-fits}
 use lib.Ieee.Fits.{add-fits, div-fits}
 use lib.Ieee.Scale.{finite}
+use Rattle.std.proofs.lemmas.Bool.{cond_both}
 use Rattle.laws.specs.Zeros.{+0, +1, nz, sg}
 use Rattle.laws.proofs.Zeros.{add_cong, mul-cong, neg-cong, div-cong}
 use Rattle.laws.proofs.Negatives.{neg-neg, add-sg, sg-xor}
@@ -381,12 +382,10 @@ rotation-is-map u X Y XX YY = entries u X Y (room_of u.re XX) (room_of u.im YY) 
 
 unit-fits : (p : Complex) → T (fits binary64 (unit_of p).re) × T (fits binary64 (unit_of p).im)
 unfolding unit_of
-unit-fits p = by (lt f0 (norm_of p) && finite (norm_of p))
-  where
-    by : (b : Bool) → let v = cond b (cx (div binary64 p.re (norm_of p)) (div binary64 p.im (norm_of p))) c1 in
-        T (fits binary64 v.re) × T (fits binary64 v.im)
-    by true = (div-fits binary64 p.re (norm_of p), div-fits binary64 p.im (norm_of p))
-    by false = (of_bits-fits binary64 0x3ff0_0000_0000_0000, of_bits-fits binary64 0)
+unit-fits p =
+    cond_both (lt f0 (norm_of p) && finite (norm_of p)) _ _ (λ (v : Complex). T (fits binary64 v.re) × T (fits binary64 v.im))
+    (λ _. (div-fits binary64 p.re (norm_of p), div-fits binary64 p.im (norm_of p)))
+    (λ _. (of_bits-fits binary64 0x3ff0_0000_0000_0000, of_bits-fits binary64 0))
 
 pub unit-rotation : (p : Complex) → T (finite (add binary64 (unit_of p).re (unit_of p).re)) → T (finite (add binary64 (unit_of p).im (unit_of p).im))
     → (i j : ℕ) → nz (entry2 (majorana_map1_of (mat2 c1 c0 c0 (unit_of p))).q i j) ≡ nz (entry2 (rotation_map_of (unit_of p)) i j)

@@ -2,7 +2,8 @@
 
 ghost use Rattle.std.specs.Prelude.{◌≡◌, ◌<◌};
 ghost use Rattle.num.specs.Order.{min_of};
-ghost use Rattle.classify.specs.Classify.{diagonal_of, without_phase_of, residual2_of, plain_of, fallback_of, swapped_of, classify2_of, rank_of, rank_number, residual_of, kind_code_of, code_of};
+ghost use Rattle.classify.specs.Classify.{diagonal_of, without_phase_of, residual2_of, plain_of, fallback_of, swapped_of, classify2_of};
+ghost use Rattle.classify.specs.Classify.{rank_of, rank_number, residual_of, kind_code_of, code_of};
 
 use crate::diagonal::{interaction, offdiag4, phase_none};
 use gate::Mat4;
@@ -33,11 +34,7 @@ impl From<Rank> for u32 {
     ghost from_gives = { λ r n. n ≡ rank_number r };
 
     fn from(r: Rank) -> u32 {
-        match r {
-            Rank::Gaussian => 0,
-            Rank::Interaction => 1,
-            Rank::Neither => 2,
-        }
+        r as u32
     }
 }
 
@@ -52,7 +49,7 @@ impl Kind2 {
         }
     }
 
-    // The residual of a matchgate and of a block that is neither, else 0.
+    // The residual of a matchgate and of a block that is neither, else 0: a number and no Option, since it is stored among lent floats, and goes to C.
     pub fn residual(self) -> f64
         ensures { result ≡ residual_of self }
     {
@@ -62,7 +59,7 @@ impl Kind2 {
         }
     }
 
-    // The number by which C and the stored results name it.
+    // The number by which C and the stored results name it, by a match and not by a cast: two of them hold a residual.
     fn code(self) -> u32
         ensures { (result ≡ kind_code_of self) × (result < 4) }
     {
@@ -119,7 +116,7 @@ fn without_phase(tol: f64, diag: bool, u: Mat4) -> bool
     diag && phase_none(tol, interaction(u))
 }
 
-// The last step without relabelling: an interaction, or neither.
+// The last step without relabelling: an interaction, or neither. What earlier steps found is passed one by one: each later step needs another part of it.
 #[tactic(auto, unfolding(crate::specs::Classify::plain_of))]
 fn plain(diag: bool, r0: f64, u: Mat4) -> Class2
     ensures { result ≡ plain_of diag r0 u }

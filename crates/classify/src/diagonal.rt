@@ -2,7 +2,8 @@
 // and the rotation that a wire gets.
 
 ghost use Rattle.std.specs.Prelude.{◌≡◌};
-ghost use Rattle.classify.specs.Diagonal.{plus_three_of, offdiag4_of, phase_a_of, phase_b_of, interaction_of, phase_none_of, unit_of, turns_of, rotation_map_of, rotation_of};
+ghost use Rattle.classify.specs.Diagonal.{plus_three_of, offdiag4_of, phase_a_of, phase_b_of, interaction_of, phase_none_of};
+ghost use Rattle.classify.specs.Diagonal.{unit_of, turns_of, rotation_map_of, rotation_of};
 ghost use Rattle.classify.specs.Parts.{divisor_of};
 
 use gate::{Complex, Mat4};
@@ -62,6 +63,7 @@ pub fn phase_none(tol: f64, w: Complex) -> bool
 }
 
 // Whether a norm is finite and above zero.
+#[tactic(auto, using(crate::proofs::Norms::norms), unfolding(crate::specs::Parts::divisor_of))]
 fn divisor(r: f64) -> bool
     ensures { result ≡ divisor_of r }
 {

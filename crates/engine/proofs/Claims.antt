@@ -1,6 +1,6 @@
 -- The register claim of the C call: what is in its caller's slices is what `run` gives and leaves, the mode table for the first n entries. Assumes nothing.
 use mathlib.Core.Path.{◌≡◌, refl, sym, ap, ◌∙◌, subst}
-use mathlib.Core.Bool.{Bool, true, false}
+use mathlib.Core.Bool.{Bool, true, false, true≢false}
 use mathlib.Core.List.{List}
 use Prim.Native.Nat.{ℕ, ◌+◌, ◌*◌, ◌≤◌, ◌<◌}
 use native.Mathlib.Omega.{arith}
@@ -13,7 +13,6 @@ use Rattle.laws.proofs.Stores.{row-own, row_first}
 use Rattle.detect.specs.Answers.{Compiled, number_of}
 use Rattle.detect.specs.declared.report.Report.{Report}
 use Rattle.detect.specs.Words.{word_count, table_count, report_words}
-use Rattle.order.proofs.Covers.{never}
 use Rattle.register.specs.Register.{register_bits}
 use Rattle.claim.specs.Queries.{answer, answers, Begins, RightAnswers}
 use Rattle.claim.proofs.Tables.{qubits-few}
@@ -81,5 +80,5 @@ claim-told t work marks ops state c s p w m l r p' w' m' l' tells claim = by (ro
     by false short =
         let number : r ≡ no_room = tells.number ∙ rw short in record {
           right = λ register e. absurd (omega (arith, sym number ∙ e));
-          accepts = λ some. absurd (never (sym short ∙ some));
+          accepts = λ some. absurd (true≢false (sym some ∙ short));
         }

@@ -5,6 +5,7 @@ use Prim.Native.Nat.{ℕ, zero, suc, ◌+◌, ◌≤◌}
 use native.Mathlib.Omega.{arith}
 use lib.ListN.{length, get_or, set}
 use lib.Seq.{paste, paste-zero, paste-suc}
+use Rattle.std.proofs.lemmas.Slice.{put_mid-paste}
 use Rattle.laws.specs.Slices.{stores}
 use Rattle.laws.proofs.Stores.{length-stores}
 use Rattle.engine.specs.Reports.{laid}
@@ -20,3 +21,6 @@ laid_pasted a x l zero room long = sym (paste-zero l a x)
 laid_pasted a x l (suc k) room long =
     sym (paste-suc l a x k 0 (omega (arith, room)) (omega (arith, long)))
     ∙ ap (λ m. set m (a + k) (get_or x k 0)) (laid_pasted a x l k (omega (arith, room)) (omega (arith, long)))
+
+-- a copy at once, as a list that a tactic takes
+pub ruleset copies = (put_mid-paste, laid_pasted)

@@ -1,4 +1,4 @@
-// The report of a tape in slices.
+// The report of a tape in slices. They are C's, and may be longer than what is written into them.
 ghost use Rattle.std.specs.Prelude.{◌≡◌, true, ◌+◌, ◌*◌, ◌≤◌, length};
 ghost use Rattle.laws.specs.Bounds.{max_qubits};
 ghost use Rattle.detect.specs.Told.{told};
@@ -28,6 +28,7 @@ fn put_words(x: &[u64; REPORT_WORDS], out: &mut [u64])
 }
 
 // A table from place a on. A function beside `put_words`: `laid` is of numbers, and a type parameter's values would be none.
+#[tactic(auto, using(crate::proofs::Laid::copies))]
 fn put_table(x: &[u16; MAX_QUBITS], out: &mut [u16], a: usize)
     requires { a + max_qubits ≤ length out.old }
     ensures { out.new ≡ laid max_qubits a x.now out.old }
@@ -36,6 +37,7 @@ fn put_table(x: &[u16; MAX_QUBITS], out: &mut [u16], a: usize)
 }
 
 // The wire on each mode, the path starts, the mode of each qubit.
+#[tactic(auto, unfolding(crate::specs::Reports::tables_written))]
 fn put_tables(r: Report, out: &mut [u16])
     requires { table_count * max_qubits ≤ length out.old }
     ensures { out.new ≡ tables_written r out.old }
@@ -49,6 +51,7 @@ fn put_tables(r: Report, out: &mut [u16])
 }
 
 // Place and report are written, the number is returned.
+#[tactic(auto, unfolding(crate::specs::Reports::has_report, crate::specs::Reports::words_written, crate::specs::Reports::measures_written))]
 pub fn put_report(
     answer: Result<Report, Refusal>,
     place: &mut [u64],

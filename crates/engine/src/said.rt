@@ -17,6 +17,7 @@ pub fn has_places(place: usize, answer: usize) -> bool
 }
 
 // Place and value are written, the number is returned.
+#[tactic(auto, unfolding(crate::specs::Answers::has_places))]
 pub fn tell(a: Result<f64, Refusal>, place: &mut [u64], answer: &mut [f64]) -> u64
     requires { has_places (length place.old) (length answer.old) ≡ true }
     ensures { Tells (told a) place.old answer.old result place.new answer.new }

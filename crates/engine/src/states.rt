@@ -1,7 +1,8 @@
 // Calls on a state. Each export asks for room and then makes its call: C names each by itself, with slices of its own, and what they share is in said.rt.
 ghost use Rattle.std.specs.Prelude.{◌≡◌, cond, leb, length, set};
 ghost use Rattle.state.specs.Calls.{apply_answer, apply_state, expectation_z_of};
-ghost use Rattle.queries.specs.Calls.{expectation_z_product_of, expectation_z_product_work, z_correlation_of, z_correlation_work, marginal_probability_of, marginal_probability_work, probability_of, probability_work, sample_of, sample_work, sample_out};
+ghost use Rattle.queries.specs.Calls.{expectation_z_product_of, expectation_z_product_work, z_correlation_of, z_correlation_work};
+ghost use Rattle.queries.specs.Calls.{marginal_probability_of, marginal_probability_work, probability_of, probability_work, sample_of, sample_work, sample_out};
 ghost use Rattle.engine.specs.Answers.{no_room, has_places, Tells};
 
 use crate::said::{NO_ROOM, has_places, tell};

@@ -11,6 +11,7 @@ use crate::reports::{has_report, put_report};
 use crate::said::NO_ROOM;
 
 // Where the label `which` is on the tape, counted from 0: offset and length, both 0 if there is none, since C has no Option.
+#[tactic(auto, unfolding(crate::specs::Answers::span_written))]
 #[unsafe(no_mangle)]
 pub extern "C" fn jozkeral_label(tape: &[u8], which: usize, found: &mut [u64]) -> u64
     ensures number { result ≡ cond (leb 2 (length found.old)) 0 no_room }

@@ -21,7 +21,7 @@ impl Complex {
 
     pub const MINUS_IMAG: Complex = Complex { re: 0.0, im: -1.0 };
 
-    // The product with a real number: num-complex multiplies each part, and nothing is added.
+    // The product with a real number, a method as num-complex has it: each part is multiplied, and nothing is added.
     pub fn scale(self, x: f64) -> Complex
         ensures { result ≡ scale_of self x }
     {
@@ -47,7 +47,7 @@ impl Complex {
         self.re * self.re + self.im * self.im
     }
 
-    // Whether it equals zero, as == of the original has it: zeros of either sign do.
+    // Whether it equals zero, as == of the original has it: zeros of either sign do. num-complex names it so too.
     #[tactic(auto, unfolding(crate::specs::Complex::is_zero_of))]
     pub fn is_zero(self) -> bool
         ensures { result ≡ is_zero_of self }

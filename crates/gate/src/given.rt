@@ -1,5 +1,5 @@
 // Matrices in bytes, as a tape gives them: entries row by row, real before imaginary, each part an
-// f64 in eight bytes, the lowest first.
+// f64 in eight bytes, the lowest first. A matrix is read from a place in the bytes: a caller that cut a slice of its own first would owe the same bound there.
 ghost use Rattle.std.specs.Prelude.{◌≡◌, ◌+◌, ◌≤◌, length};
 ghost use Rattle.gate.specs.Given.{complex_at, given_row_at};
 

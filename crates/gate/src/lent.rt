@@ -1,5 +1,6 @@
 // Matrices in a lent slice of floats: row by row, real before imaginary, 8 floats for a 2 by 2 and
 // 32 for a 4 by 4. A row of eight floats is what is read and written at a time.
+// It has a place in the slice: a caller that cut a slice of its own first would owe the same bound there.
 ghost use Rattle.std.specs.Prelude.{◌≡◌, ◌+◌, ◌≤◌, length};
 ghost use Rattle.gate.specs.Lent.{row_at, store_row_of};
 
@@ -33,6 +34,7 @@ pub fn load_row(s: &[f64], p: usize) -> Row4
 }
 
 // Writes a row to the eight floats from p on.
+#[tactic(auto, unfolding(crate::specs::Lent::store_row_of, laws::specs::Slices::stores))]
 pub fn store_row(s: &mut [f64], p: usize, r: Row4)
     requires { p + 8 ≤ length s.old }
     ensures { s.new ≡ store_row_of s.old p r }

@@ -34,7 +34,8 @@ pub trait Matrix: Copy {
 
     ghost adjoint_of: { Self → Self };
 
-    // The matrix in the floats from p on.
+    // The matrix in the floats from p on. `load` and `given` are two: one reads floats, the other bytes. Both have a place in the slice, as lent.rt and
+    // given.rt say.
     fn load(s: &[f64], p: usize) -> Self
         requires { p + FLOATS ≤ length s.now }
         ensures { result ≡ loaded s.now p };

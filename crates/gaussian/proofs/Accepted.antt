@@ -8,6 +8,7 @@ use lib.Dec.{ltb}
 use lib.ListN.{length}
 use lib.Ieee.{Float}
 use borrow.Author.Tests.{ltb-false, ltb-true, eq-eqb}
+use Rattle.std.proofs.lemmas.Bool.{cond_both}
 use Rattle.tape.specs.Parse.{Parsed, Content, refused, accepted, parse}
 use Rattle.tape.specs.declared.header.Header.{Header}
 use Rattle.detect.specs.Operation.{written}
@@ -54,11 +55,9 @@ module _ (o s : ℕ) where
   asked-says : (p : Parsed) → Numbered p → (w u : ℕ) → Says p w u o s (asked_from (asked_report o s) p w u)
   unfolding asked_from
   asked-says (refused number place) some w u = some
-  asked-says (accepted h c) some w u = by (has_work (length c.gates) h.n w u) refl
-    where
-      by : (b : Bool) → has_work (length c.gates) h.n w u ≡ b → Says (accepted h c) w u o s (cond b (asked_report o s h c) (early 9 0))
-      by true e = judged-says w u h c e
-      by false e = omega arith
+  asked-says (accepted h c) some w u =
+      cond_both (has_work (length c.gates) h.n w u) _ _ (Says (accepted h c) w u o s)
+      (λ e. judged-says w u h c e) (λ e. omega arith)
 
   pub passed-asked : (p : Parsed) (h : Header) (c : Content) (w u : ℕ) → Passed p h c w u o s → asked_from (asked_report o s) p w u ≡ passed h c
   unfolding asked_from

@@ -10,6 +10,7 @@ use lib.Dec.{ltb}
 use lib.ListN.{length}
 use lib.Ieee.{Float}
 use borrow.Author.Tests.{le-ltb, lt-ltb, eq-eqb, ne_eqb}
+use Rattle.std.proofs.lemmas.Bool.{cond_both}
 use Rattle.laws.specs.Bounds.{op_places}
 use Rattle.tape.specs.Parse.{Content, accepted, parse}
 use Rattle.tape.specs.declared.header.Header.{Header}
@@ -77,11 +78,9 @@ pub record Roomy (work : List Float) (marks : List ℕ) (ops state : List Float)
 -- a block becomes three operations at most
 pub operations-few : (h : Header) (gs : List Gate) → (reported_of h gs).operations ≤ 3 * (reported_of h gs).blocks
 unfolding reported_of report_of tape_counts
-operations-few h gs = by (free_of (tape_counts h gs))
-  where
-    by : (b : Bool) → cond b (tape_counts h gs).operations 0 ≤ 3 * (tape_counts h gs).blocks
-    by true = let a = counts-add h.tolerance (mode_of_wire h gs) (items_of h gs).items in omega (arith, a.operations, a.items)
-    by false = omega arith
+operations-few h gs =
+    cond_both (free_of (tape_counts h gs)) _ _ (λ z. z ≤ 3 * (tape_counts h gs).blocks)
+    (λ _. let a = counts-add h.tolerance (mode_of_wire h gs) (items_of h gs).items in omega (arith, a.operations, a.items)) (λ _. omega arith)
 
 places-few : (n : ℕ) → n ≤ 3 → state_places (dim_of n) ≤ state_places (dim_of 3)
 places-few n l = let d : 2 * n ≤ 6 = omega arith in omega (arith, mul-le-mul d d)

@@ -1,4 +1,4 @@
-// A tape run: the questions in their order, the operations, the state.
+// A tape run: the questions in their order, the operations, the state. Tape, work, marks and operations come one by one, as C hands them over.
 ghost use Rattle.std.specs.Prelude.{◌≡◌};
 ghost use Rattle.detect.specs.Told.{told};
 ghost use Rattle.claim.specs.Queries.{answer};

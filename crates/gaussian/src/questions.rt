@@ -24,6 +24,7 @@ fn interacting(h: Header, r: Report) -> bool
 }
 
 // The first of 10 to 15 whose answer is no. There are `ops` places for the operations, `state` for the state.
+#[tactic(auto, using(std::proofs::lemmas::Bool::Decides::nat_tests), unfolding(crate::specs::Run::verdict_of))]
 pub fn verdict(h: Header, r: Report, ops: usize, state: usize) -> Result<(), Refusal>
     requires { h.n ≤ max_qubits }
     ensures { Says result (verdict_of h r r.operations ops state) }

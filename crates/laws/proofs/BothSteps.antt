@@ -2,7 +2,7 @@
 -- The steps do not get into each other's way: only the map's own rows are read by the first, and where a turn makes them it made their columns before.
 -- Assumes nothing.
 use mathlib.Core.Path.{◌≡◌, refl, sym, ◌∙◌}
-use mathlib.Core.Logic.{◌⊎◌, inl, inr, ◌≢◌}
+use mathlib.Core.Logic.{◌⊎◌, inl, inr, ◌≢◌, ⊎_elim}
 use mathlib.Core.Bool.{Bool, true, false, true≢false}
 use mathlib.Core.List.{List}
 use Prim.Native.Nat.{ℕ, ◌+◌, ◌*◌, ◌/◌, ◌≤◌, ◌<◌}
@@ -13,7 +13,7 @@ use lib.Ieee.{Float, nan}
 use Rattle.laws.specs.Matrix.{Mat, at, Is}
 use Rattle.laws.specs.Maps.{Local, inside, rows, cols, column_turn, row_turn, pair_turn}
 use Rattle.laws.specs.Loops.{up_to, by_pairs}
-use Rattle.laws.proofs.Cases.{lt-or-le, eq-or-ne}
+use Rattle.std.proofs.lemmas.Bool.{cases_lt, cases_eq, cases_Bool, false_from_ne_true, cond_both}
 use Rattle.laws.proofs.Loops.{up_left, more}
 use Rattle.laws.proofs.Columns.{column-long, column-after, column-other}
 use Rattle.laws.proofs.Maps.{inside-yes, inside-below, inside-above, rows_out, cols-out, rows-own, cols-own}
@@ -21,16 +21,7 @@ use Rattle.laws.proofs.Maps.{column-own, row-long, row-after, row_other, row-own
 
 -- an index by its half
 half_of : (c t : ℕ) → c / 2 ≡ t → (c ≡ 2 * t) ⊎ (c ≡ 2 * t + 1)
-half_of c t e = by (lt-or-le c (2 * t + 1))
-  where
-    by : (c < 2 * t + 1) ⊎ (2 * t + 1 ≤ c) → (c ≡ 2 * t) ⊎ (c ≡ 2 * t + 1)
-    by (inl l) = inl (omega arith)
-    by (inr l) = inr (omega arith)
-
--- a test, as a case
-yes_or_no : (b : Bool) → (b ≡ true) ⊎ (b ≡ false)
-yes_or_no true = inl refl
-yes_or_no false = inr refl
+half_of c t e = ⊎_elim (λ l. inl (omega arith)) (λ l. inr (omega arith)) (cases_lt c (2 * t + 1))
 
 -- ---- a turn: two columns, then two rows
 
@@ -148,7 +139,7 @@ module _ (o : Local) (k n t : ℕ) (m₀ m : List Float) (start : o.start ≡ 2 
 
   -- the map's indices are those of the half k
   own-half : (i : ℕ) → inside o i ≡ true → i / 2 ≡ k
-  own-half i e = by (lt-or-le i o.start) (lt-or-le i (o.start + o.width))
+  own-half i e = by (cases_lt i o.start) (cases_lt i (o.start + o.width))
     where
       by : (i < o.start) ⊎ (o.start ≤ i) → (i < o.start + o.width) ⊎ (o.start + o.width ≤ i) → i / 2 ≡ k
       by (inl l) _ = absurd (true≢false (sym e ∙ inside-below o i l))
@@ -159,16 +150,12 @@ module _ (o : Local) (k n t : ℕ) (m₀ m : List Float) (start : o.start ≡ 2 
   half-own i e = inside-yes o i (omega (arith, start)) (omega (arith, start, width))
 
   not_own : (i : ℕ) → i / 2 ≢ k → inside o i ≡ false
-  not_own i ne = by (yes_or_no (inside o i))
-    where
-      by : (inside o i ≡ true) ⊎ (inside o i ≡ false) → inside o i ≡ false
-      by (inl e) = absurd (ne (own-half i e))
-      by (inr e) = e
+  not_own i ne = false_from_ne_true (inside o i) (λ e. ne (own-half i e))
 
   -- a row's entries turn on that row's
   cols-row : (g g' : Mat) (r c : ℕ) → r < d → c < d → ((c' : ℕ) → c' < d → g r c' ≡ g' r c') → cols o g r c ≡ cols o g' r c
   unfolding d
-  cols-row g g' r c hr hc e = by (yes_or_no (inside o c))
+  cols-row g g' r c hr hc e = by (cases_Bool (inside o c))
     where
       by : (inside o c ≡ true) ⊎ (inside o c ≡ false) → cols o g r c ≡ cols o g' r c
       by (inl own) = cols-own o g g' r c own (λ j l. e (o.start + j) (omega arith))
@@ -182,7 +169,7 @@ module _ (o : Local) (k n t : ℕ) (m₀ m : List Float) (start : o.start ≡ 2 
   -- a row that is not the map's is as it was until its columns are made
   apart : (r c : ℕ) → r < d → c < d → inside o r ≡ false → at d (m₂ o n t m h band room) r c ≡ at d m r c
   unfolding d dim
-  apart r c hr hc out = by (eq-or-ne (c / 2) t)
+  apart r c hr hc out = by (cases_eq (c / 2) t)
     where
       by : (c / 2 ≡ t) ⊎ (c / 2 ≢ t) → at d (m₂ o n t m h band room) r c ≡ at d m r c
       by (inl e) = column-pair o n t m h band room r c hr hc e ∙ rows_out o (at d m) r c out
@@ -198,10 +185,10 @@ module _ (o : Local) (k n t : ℕ) (m₀ m : List Float) (start : o.start ≡ 2 
   -- entries of another turn stay
   other : (r c : ℕ) → r < d → c < d → by_pairs (inside o) r c ≢ t → at d (m₄ o n t m h band room) r c ≡ at d m r c
   unfolding d dim
-  other r c hr hc = by (yes_or_no (inside o r))
+  other r c hr hc = by (cases_Bool (inside o r))
     where
       by : (inside o r ≡ true) ⊎ (inside o r ≡ false) → by_pairs (inside o) r c ≢ t → at d (m₄ o n t m h band room) r c ≡ at d m r c
-      by (inl own) ne = on (eq-or-ne (r / 2) t) ∙ column-away o n t m h band room r c hr hc ne'
+      by (inl own) ne = on (cases_eq (r / 2) t) ∙ column-away o n t m h band room r c hr hc ne'
         where
           ne' : c / 2 ≢ t
           ne' e = ne (rw own e)
@@ -216,7 +203,7 @@ module _ (o : Local) (k n t : ℕ) (m₀ m : List Float) (start : o.start ≡ 2 
   -- those of this turn are made
   made-now : (r c : ℕ) → r < d → c < d → by_pairs (inside o) r c ≡ t → at d (m₄ o n t m h band room) r c ≡ cols o (rows o f) r c
   unfolding d dim f
-  made-now r c hr hc = by (yes_or_no (inside o r)) (yes_or_no (inside o c))
+  made-now r c hr hc = by (cases_Bool (inside o r)) (cases_Bool (inside o c))
     where
       by : (inside o r ≡ true) ⊎ (inside o r ≡ false) → (inside o c ≡ true) ⊎ (inside o c ≡ false) → by_pairs (inside o) r c ≡ t
           → at d (m₄ o n t m h band room) r c ≡ cols o (rows o f) r c
@@ -248,8 +235,4 @@ pairs-more o k n t m₀ m m' start width h band room w e =
 
 -- each entry has its turn
 pub pairs_below : (own : ℕ → Bool) (n r c : ℕ) → r < 2 * n → c < 2 * n → by_pairs own r c < n
-pairs_below own n r c h g = by (yes_or_no (own r))
-  where
-    by : (own r ≡ true) ⊎ (own r ≡ false) → by_pairs own r c < n
-    by (inl e) = rw e (omega arith)
-    by (inr e) = rw e (omega arith)
+pairs_below own n r c h g = cond_both (own r) (c / 2) (r / 2) (λ k. k < n) (λ _. omega arith) (λ _. omega arith)

@@ -10,9 +10,10 @@ use lib.ListN.{length, get_or, set}
 use lib.Ieee.{Float, nan}
 use Rattle.laws.specs.Matrix.{Mat, at, put_column, Is}
 use Rattle.laws.specs.Loops.{up_to, by_col}
-use Rattle.laws.proofs.Cases.{lt-or-le}
+use Rattle.std.proofs.lemmas.Bool.{cases_lt}
 use Rattle.laws.proofs.Stores.{length-stores, stores-other, stores-own, stores-first}
-use Rattle.laws.proofs.Matrix.{place_in, row_of, col-of}
+use Rattle.std.proofs.lemmas.Nat.{same_from_place}
+use Rattle.laws.proofs.Matrix.{place_in}
 use Rattle.laws.proofs.Loops.{up_left, more}
 
 -- ---- the matrix after the stores
@@ -28,23 +29,23 @@ module _ (dim s k c : ℕ) (v : ℕ → Float) (m : List Float) (g : c < dim) (b
   column-after i b = stores-other p v m k i nan (λ j l e. omega (arith, e, place_in dim (s + j) c (omega arith) g))
 
   pub column-other : (r c' : ℕ) → c' < dim → c' ≢ c → at dim (put_column k dim s c v m) r c' ≡ at dim m r c'
-  column-other r c' g' ne = stores-other p v m k (r * dim + c') nan (λ j l e. ne (col-of dim r c' (s + j) c g' g e))
+  column-other r c' g' ne = stores-other p v m k (r * dim + c') nan (λ j l e. ne (same_from_place r c' (s + j) c dim g' g e).1)
 
   -- column c itself is new, if new has what is stored, and what was there in the other rows
   pub column-is : (new : ℕ → Float) → dim * dim ≤ length m → ((r : ℕ) → r < dim → (r < s) ⊎ (s + k ≤ r) → at dim m r c ≡ new r)
       → ((i : ℕ) → i < k → v i ≡ new (s + i)) → (r : ℕ) → r < dim → at dim (put_column k dim s c v m) r c ≡ new r
-  column-is new room kept put r h = by (lt-or-le r s) (lt-or-le r (s + k))
+  column-is new room kept put r h = by (cases_lt r s) (cases_lt r (s + k))
     where
       apart : (j : ℕ) → j < k → r ≡ s + j → (r < s) ⊎ (s + k ≤ r) → ⊥
       apart j l e (inl b) = omega arith
       apart j l e (inr b) = omega arith
 
       off : (r < s) ⊎ (s + k ≤ r) → at dim (put_column k dim s c v m) r c ≡ new r
-      off away = stores-other p v m k (r * dim + c) nan (λ j l e. apart j l (row_of dim r c (s + j) c g g e) away) ∙ kept r h away
+      off away = stores-other p v m k (r * dim + c) nan (λ j l e. apart j l (same_from_place r c (s + j) c dim g g e).0 away) ∙ kept r h away
 
       on : (i : ℕ) → i < k → at dim (put_column k dim s c v m) (s + i) c ≡ v i
       on i l =
-          stores-own p v m k i nan l (le_trans (place_in dim (s + i) c (omega arith) g) room) (λ j _ e. omega (arith, row_of dim (s + i) c (s + j) c g g e))
+          stores-own p v m k i nan l (le_trans (place_in dim (s + i) c (omega arith) g) room) (λ j _ e. omega (arith, same_from_place (s + i) c (s + j) c dim g g e))
 
       by : (r < s) ⊎ (s ≤ r) → (r < s + k) ⊎ (s + k ≤ r) → at dim (put_column k dim s c v m) r c ≡ new r
       by (inl l) _ = off (inl l)

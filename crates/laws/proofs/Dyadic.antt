@@ -16,6 +16,7 @@ use lib.Ieee.Exact.{HasValue, round_exact}
 use borrow.Author.Tests.{ne_eqb}
 use Rattle.laws.specs.Zeros.{+0, nz}
 use Rattle.laws.specs.Dyadic.{with_sign, Dy, cap, finest}
+use Rattle.laws.proofs.Zeros.{den}
 use Rattle.laws.proofs.Negatives.{unlike-false}
 use Rattle.laws.proofs.Integers.{sign_of, abs-sign, abs-of, sign_zero, sign-not, sign-mul, abs_neg, sub-ge, sub-lt, quot-size, quot-sign, quot_is, quot-mul}
 
@@ -124,9 +125,6 @@ left_at m p d k c h = mul_right_comm m d p ∙ ap (λ (x : ℕ). x * d) h ∙ mu
 pub right-at : (m p d k c : ℕ) → m * p ≡ k * c → m * d * p ≡ k * (d * c)
 right-at m p d k c h = left_at m p d k c h ∙ ap (λ (x : ℕ). k * x) (mul_comm c d)
 
-pub den_pos : (e d : ℤ) → 0 < down e * down d
-den_pos e d = mul-pos (down_pos e) (down_pos d)
-
 -- ---- the operations
 
 pub neg-dy : (j : ℕ) (z : ℤ) (x : Float) → Dy j z x → Dy j (neg_ℤ z) (neg x)
@@ -143,7 +141,7 @@ add-dy j z w (fin s m e) nan J h p q = absurd q
 add-dy j z w (fin s m e) (inf t) J h p q = absurd q
 add-dy j z w (fin s m e) (fin t n d) J h p q =
     rw (← p.2, ← q.2)
-    (sum-dy j (m * up e * down d) (n * up d * down e) (down e * down d) p.0 q.0 (den_pos e d) J
+    (sum-dy j (m * up e * down d) (n * up d * down e) (down e * down d) p.0 q.0 (den e d) J
     (left_at (m * up e) (2 ^ j) (down d) p.0 (down e) p.1)
     (right-at (n * up d) (2 ^ j) (down e) q.0 (down d) q.1)
     (rw (abs-of s p.0 z p.2, abs-of t q.0 w q.2) h) s t)
@@ -161,7 +159,7 @@ mul-dy i j z w (fin s m e) (inf t) J h p q = absurd q
 mul-dy i j z w (fin s m e) (fin t n d) J h p q =
     subst (λ (v : ℤ). Dy (i + j) v (round binary64 (unlike s t) (m * up e * (n * up d)) (down e * down d)))
     (sign-mul s t p.0 q.0 ∙ (λ a. p.2 a *ℤ q.2 a))
-    (round-dy (unlike s t) (m * up e * (n * up d)) (down e * down d) (p.0 * q.0) (i + j) (den_pos e d)
+    (round-dy (unlike s t) (m * up e * (n * up d)) (down e * down d) (p.0 * q.0) (i + j) (den e d)
     (rw (abs-of s p.0 z p.2, abs-of t q.0 w q.2) h)
     J
     (ap (λ (v : ℕ). m * up e * (n * up d) * v) (pow-add 2 i j)

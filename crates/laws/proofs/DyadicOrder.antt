@@ -1,9 +1,8 @@
 -- Comparisons of small dyadic numbers as floats are those of the whole numbers in front: `lt_z`, `le_z`, `eq_z`. Two floats are brought over one
 -- denominator, and there over the power of two. Assumes nothing.
 use mathlib.Core.Path.{◌≡◌, refl, sym, ap, ◌∙◌}
-use mathlib.Core.Logic.{◌⊎◌, inl, inr, ◌≢◌}
 use mathlib.Core.Bool.{Bool, true, false, ◌&&◌, beq, and-true, and-false, ◌||◌}
-use Prim.Native.Nat.{ℕ, zero, suc, ◌+◌, ◌*◌, ◌^◌, ◌≤◌, ◌<◌}
+use Prim.Native.Nat.{ℕ, zero, suc, ◌+◌, ◌*◌, ◌^◌, ◌<◌}
 use native.Mathlib.Nat.{zero-mul, zero-add, zero-lt-suc}
 use native.Mathlib.Omega.{arith}
 use lib.Dec.{leb-suc-zero, leb-suc-suc, eqb-zero-suc, eqb-suc-zero, eqb-suc-suc, eqb, ltb}
@@ -11,28 +10,21 @@ use lib.IntN.{ℤ}
 use lib.Signed.{lt_z, le_z}
 use lib.Pow.{pow_pos}
 use lib.Ieee.{Float, nan, inf, fin, up, down, lt, eq, le, below, level}
-use borrow.Author.Tests.{lt-ltb, le-ltb, eq-eqb, ne_eqb}
+use borrow.Author.Tests.{lt-ltb}
+use Rattle.std.proofs.lemmas.Bool.Decides.{nat_tests}
 use Rattle.laws.specs.Dyadic.{with_sign, Dy, eq_z}
-use Rattle.laws.proofs.Cases.{lt-or-le, eq-or-ne}
+use Rattle.laws.proofs.Zeros.{den}
 use Rattle.laws.proofs.Integers.{le_is}
-use Rattle.laws.proofs.Dyadic.{left_at, right-at, den_pos, plus-at, lt_at, le-at, eq-at}
+use Rattle.laws.proofs.Dyadic.{left_at, right-at, plus-at, lt_at, le-at, eq-at}
 
 -- ---- two fractions over one denominator
 
 module _ (a b c k l p : ℕ) (P : 0 < p) (C : 0 < c) (A : a * p ≡ k * c) (B : b * p ≡ l * c) where
   ltb-at : ltb a b ≡ ltb k l
-  ltb-at = by (lt-or-le a b)
-    where
-      by : (a < b) ⊎ (b ≤ a) → ltb a b ≡ ltb k l
-      by (inl h) = rw (lt-ltb a b h, lt-ltb k l (lt_at a b c k l p A B P h))
-      by (inr h) = rw (le-ltb a b h, le-ltb k l (le-at b a c l k p B A C h))
+  ltb-at = grind (arith, nat_tests, lt_at a b c k l p A B P, le-at b a c l k p B A C)
 
   eqb-at : eqb a b ≡ eqb k l
-  eqb-at = by (eq-or-ne a b)
-    where
-      by : (a ≡ b) ⊎ (a ≢ b) → eqb a b ≡ eqb k l
-      by (inl h) = rw (eq-eqb a b h, eq-eqb k l (eq-at a b c k l p A B C h))
-      by (inr h) = rw (ne_eqb a b h, ne_eqb k l (λ e. h (eq-at k l p a b c (sym A) (sym B) P e)))
+  eqb-at = grind (arith, nat_tests, eq-at a b c k l p A B C, eq-at k l p a b c (sym A) (sym B) P)
 
 -- 0 / c is 0 / p
 none-at : (c p : ℕ) → 0 * p ≡ 0 * c
@@ -84,7 +76,7 @@ lt-dy j z w (inf s) y p q = absurd p
 lt-dy j z w (fin s m e) nan p q = absurd q
 lt-dy j z w (fin s m e) (inf t) p q = absurd q
 lt-dy j z w (fin s m e) (fin t n d) p q =
-    below_at s t (m * up e * down d) (n * up d * down e) (down e * down d) p.0 q.0 (2 ^ j) (pow_pos j) (den_pos e d)
+    below_at s t (m * up e * down d) (n * up d * down e) (down e * down d) p.0 q.0 (2 ^ j) (pow_pos j) (den e d)
     (left_at (m * up e) (2 ^ j) (down d) p.0 (down e) p.1)
     (right-at (n * up d) (2 ^ j) (down e) q.0 (down d) q.1)
     ∙ below-is s t p.0 q.0
@@ -97,7 +89,7 @@ eq-dy j z w (inf s) y p q = absurd p
 eq-dy j z w (fin s m e) nan p q = absurd q
 eq-dy j z w (fin s m e) (inf t) p q = absurd q
 eq-dy j z w (fin s m e) (fin t n d) p q =
-    level-at s t (m * up e * down d) (n * up d * down e) (down e * down d) p.0 q.0 (2 ^ j) (pow_pos j) (den_pos e d)
+    level-at s t (m * up e * down d) (n * up d * down e) (down e * down d) p.0 q.0 (2 ^ j) (pow_pos j) (den e d)
     (left_at (m * up e) (2 ^ j) (down d) p.0 (down e) p.1)
     (right-at (n * up d) (2 ^ j) (down e) q.0 (down d) q.1)
     ∙ level-is s t p.0 q.0

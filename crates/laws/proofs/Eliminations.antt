@@ -3,7 +3,7 @@
 -- The rows from k + 2 on, made by the rows k and k + 1: the columns from k + 2 on (the Pfaffian), or those right of the diagonal (a sample).
 -- Assumes nothing.
 use mathlib.Core.Path.{◌≡◌, sym, ap, ◌∙◌}
-use mathlib.Core.Logic.{◌⊎◌, inl, inr, ◌≢◌}
+use mathlib.Core.Logic.{◌⊎◌, inl, inr, ◌≢◌, ⊎_elim}
 use mathlib.Core.Bool.{true, false, true≢false, and-false}
 use mathlib.Core.List.{List}
 use Prim.Native.Nat.{ℕ, ◌+◌, ◌*◌, ◌≤◌, ◌<◌}
@@ -16,7 +16,7 @@ use borrow.Author.Tests.{ne_eqb, le-leb, lt-leb, lt-ltb, le-ltb}
 use Rattle.laws.specs.Matrix.{Mat, at, matrix}
 use Rattle.laws.specs.Steps.{Mask, masked, in_row, cols_from, corner_from, right_from, Formula, by_pair}
 use Rattle.laws.specs.Loops.{by_row, by_col}
-use Rattle.laws.proofs.Cases.{lt-or-le, eq-or-ne}
+use Rattle.std.proofs.lemmas.Bool.{cases_lt, cases_eq}
 use Rattle.laws.proofs.Sweep.{Swept, Reads, sweep-start, sweep-out, sweep-left, sweep-store, sweep-row}
 
 -- ---- row i from column s on, by a formula h of one float
@@ -58,11 +58,7 @@ Pair k g p dim m₀ n m = Swept by_row p (by_pair k g (at dim m₀)) dim m₀ n 
 -- the mask leaves out the rows before k + 2, so that the rows k and k + 1 stay
 module _ (k : ℕ) (g : Formula) (p : Mask) (dim : ℕ) (low : (r c : ℕ) → r < k + 2 → p r c ≡ false) where
   on-rows : (r c : ℕ) → p r c ≡ true → k + 2 ≤ r
-  on-rows r c e = by (lt-or-le r (k + 2))
-    where
-      by : (r < k + 2) ⊎ (k + 2 ≤ r) → k + 2 ≤ r
-      by (inl l) = absurd (true≢false (sym e ∙ low r c l))
-      by (inr l) = l
+  on-rows r c e = ⊎_elim (λ l. absurd (true≢false (sym e ∙ low r c l))) (λ l. l) (cases_lt r (k + 2))
 
   pair_reads : Reads dim p (by_pair k g)
   pair_reads f f' same r c hr hc e own =
@@ -107,7 +103,7 @@ module _ (s : ℕ) where
   right-on r c h g = rw (le-leb s r h, lt-ltb r c g)
 
   pub right-row-start : (new : Mat) (dim i : ℕ) (m : List Float) → Swept by_col (in_row i (right_from s)) new dim m (i + 1) m
-  right-row-start new dim i m = sweep-start by_col (in_row i (right_from s)) new dim (i + 1) m (λ r c k. out r c (omega arith) (eq-or-ne r i))
+  right-row-start new dim i m = sweep-start by_col (in_row i (right_from s)) new dim (i + 1) m (λ r c k. out r c (omega arith) (cases_eq r i))
     where
       out : (r c : ℕ) → c ≤ i → (r ≡ i) ⊎ (r ≢ i) → in_row i (right_from s) r c ≡ false
       out r c l (inl e) = rw (e, le-ltb i c l, and-false (leb s i)) (and-false (eqb i i))

@@ -15,7 +15,8 @@ use Rattle.laws.specs.Matrix.{at}
 use Rattle.laws.specs.Steps.{rows_from, cols_from}
 use Rattle.laws.specs.Loops.{by_row, by_col}
 use Rattle.laws.proofs.Tables.{exchanged-away, exchanged-through, exchanged-below, length-traded, get_or-traded}
-use Rattle.laws.proofs.Matrix.{place_in, row_of, col-of}
+use Rattle.std.proofs.lemmas.Nat.{same_from_place}
+use Rattle.laws.proofs.Matrix.{place_in}
 use Rattle.laws.proofs.Loops.{up_left, more}
 use Rattle.laws.proofs.Sweep.{Swept, masked_on}
 
@@ -41,8 +42,8 @@ module _ (dim r c s d : ℕ) (m : List Float) (hr : r < dim) (hc : c < dim) (hs 
   trade-away : (r' c' : ℕ) → c' < dim → (r' ≡ r → c' ≡ c → ⊥) → (r' ≡ s → c' ≡ d → ⊥) → at dim (traded nan (r * dim + c) (s * dim + d) m) r' c' ≡ at dim m r' c'
   trade-away r' c' g na nb =
       trade-other (r' * dim + c')
-      (λ e. na (row_of dim r' c' r c g hc e) (col-of dim r' c' r c g hc e))
-      (λ e. nb (row_of dim r' c' s d g hd e) (col-of dim r' c' s d g hd e))
+      (λ e. let p = same_from_place r' c' r c dim g hc e in na p.0 p.1)
+      (λ e. let p = same_from_place r' c' s d dim g hd e in nb p.0 p.1)
 
 -- ---- two rows, from column k on: the columns before n are done
 
@@ -67,7 +68,7 @@ rows-exchange-more p q k dim n m₀ m m' hp hq hk hn room w e =
     own : (r : ℕ) → r < dim → at dim t r n ≡ at dim m₀ (exchanged p q r) n
     own r h =
         trade-at dim p n q n m hp hn hq hn room' (r * dim + n)
-        ∙ ap (λ j. get_or m j nan) (exchanged-through p q (λ i. i * dim + n) (λ x y. row_of dim x n y n hn hn) r)
+        ∙ ap (λ j. get_or m j nan) (exchanged-through p q (λ i. i * dim + n) (λ x y e. (same_from_place x n y n dim hn hn e).0) r)
         ∙ w.each (exchanged p q r) n (exchanged-below p q dim r hp hq h) hn
         ∙ up_left by_col _ _ n (exchanged p q r) n (le_refl n)
 

@@ -1,21 +1,20 @@
 -- The first two terms of a sum from 0.0 may change places: addition is commutative, and a zero in front takes the sign from a zero that follows.
 -- Assumes nothing.
 use mathlib.Core.Path.{◌≡◌, refl, sym, ap, ◌∙◌}
-use mathlib.Core.Logic.{◌⊎◌, inl, inr}
 use mathlib.Core.Bool.{Bool, true, false}
-use Prim.Native.Nat.{ℕ, zero, suc, ◌*◌, ◌-◌, ◌≤◌, ◌<◌}
-use native.Mathlib.Nat.{zero-add, zero-mul, add_comm, mul_comm, mul_assoc, mul-pos, sub-zero, zero-lt-suc}
+use Prim.Native.Nat.{ℕ, zero, suc, ◌*◌, ◌<◌}
+use native.Mathlib.Nat.{zero-add, zero-mul, add_comm, mul_comm, mul_assoc, sub-zero}
 use native.Mathlib.Omega.{arith}
 use lib.IntN.{ℤ, pos}
 use lib.Dec.{T, lit<}
 use lib.Ieee.{Float, nan, inf, fin, binary64, up, down, fits, round, sum, add, mul}
-use lib.Ieee.Fits.{up_pos, down_pos, mul-fits}
+use lib.Ieee.Fits.{down_pos, mul-fits}
 use lib.Ieee.Scale.{round_same}
-use borrow.Author.Tests.{lt-ltb, le-ltb}
+use borrow.Author.Tests.{lt-ltb}
+use Rattle.std.proofs.lemmas.Bool.Decides.{nat_tests}
 use Rattle.laws.specs.Zeros.{+0, nz}
 use Rattle.laws.specs.Maps.{dot}
-use Rattle.laws.proofs.Cases.{lt-or-le}
-use Rattle.laws.proofs.Zeros.{flat, den}
+use Rattle.laws.proofs.Zeros.{flat, den, more}
 use Rattle.laws.proofs.Fit.{round-self}
 
 -- ---- addition is commutative
@@ -23,15 +22,7 @@ use Rattle.laws.proofs.Fit.{round-self}
 -- of two numbers of different sign
 unlike-comm : (a b c : ℕ) → sum binary64 false a true b c ≡ sum binary64 true b false a c
 unfolding sum
-unlike-comm a b c = by (lt-or-le a b) (lt-or-le b a)
-  where
-    by : (a < b) ⊎ (b ≤ a) → (b < a) ⊎ (a ≤ b) → sum binary64 false a true b c ≡ sum binary64 true b false a c
-    by (inl l) (inl k) = absurd (omega arith)
-    by (inl l) (inr k) = rw (lt-ltb a b l, le-ltb b a k)
-    by (inr l) (inl k) = rw (le-ltb a b l, lt-ltb b a k)
-    by (inr l) (inr k) =
-        let e : a - b ≡ b - a = omega arith in
-        rw (le-ltb a b l, le-ltb b a k) (ap (λ x. round binary64 false x c) e)
+unlike-comm a b c = grind (arith, nat_tests)
 
 sum_comm : (s t : Bool) (a b c : ℕ) → sum binary64 s a t b c ≡ sum binary64 t b s a c
 unfolding sum
@@ -85,11 +76,11 @@ unfolding add
 zero-front s e t n d p =
     let b = suc n * up d * down e in
     ap (λ x. sum binary64 s x t b (down e * down d)) (flat (up e) (down d))
-    ∙ alone s t b (down e * down d) (mul-pos (mul-pos (zero-lt-suc n) (up_pos d)) (down_pos e))
+    ∙ alone s t b (down e * down d) (more n d e)
     ∙ round_same binary64 t b (down e * down d) (suc n * up d) (down d) (den e d) (down_pos d) (mul_assoc (suc n * up d) (down e) (down d))
     ∙ round-self t (suc n) d p
 
-lead : (x : Float) → T (fits binary64 x) → add binary64 +0 x ≡ nz x
+pub lead : (x : Float) → T (fits binary64 x) → add binary64 +0 x ≡ nz x
 unfolding add
 lead nan p = refl
 lead (inf s) p = refl

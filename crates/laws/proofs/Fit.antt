@@ -1,10 +1,11 @@
 -- A value has one float: two floats that fit and have the same value are equal, since their bits are. So rounding gives back what fits, and a float
 -- that fits, times 1.0, is itself. Assumes nothing.
 use mathlib.Core.Path.{◌≡◌, refl, sym, ap, ◌∙◌, subst}
-use mathlib.Core.Bool.{Bool, true, false, not, ◌&&◌, cond}
+use mathlib.Core.Logic.{⊎_elim}
+use mathlib.Core.Bool.{Bool, true, false, ◌&&◌, cond}
 use Prim.Native.Nat.{ℕ, zero, suc, ◌+◌, ◌-◌, ◌*◌, ◌/◌, ◌%◌, ◌^◌, ◌≤◌, ◌<◌}
 use native.Mathlib.Nat.{mul-one, mul_assoc, mul_right_comm, zero-mul, lt_of_lt_of_le, lt_irrefl}
-use lib.Dec.{T, leb, ltb, eqb, leb→le, nleb→lt, ltb→lt, lit<}
+use lib.Dec.{T, leb, ltb, eqb, leb→le, ltb→lt, lit<}
 use lib.IntN.{ℤ, pos, negsuc}
 use lib.Pow.{pow_pos, pow-add, pow-lt, shl_lt}
 use lib.Ieee.{Float, nan, inf, fin, binary64, prec, up, down, round, mul, neg, size, top, hid, fits, to_bits, of_bits}
@@ -12,6 +13,7 @@ use lib.Ieee.Bits.{of_bits-to_bits}
 use lib.Ieee.Exact.{HasValue, round_exact}
 use lib.Ieee.Fits.{round-fits, down_pos, and_l, and_r, neg-fits, add-fits}
 use lib.Ieee.Nearest.{div_same}
+use Rattle.std.proofs.lemmas.Bool.{cases_lt}
 use Rattle.laws.specs.Zeros.{+1, sg}
 use Rattle.laws.specs.Dyadic.{cap, finest}
 use Rattle.laws.specs.Maps.{dot}
@@ -56,12 +58,20 @@ part_up : (s : Bool) (m a : ℕ) → m < cap → a ≤ finest → HasValue (roun
 part_up s m a h k = round-value s (m * 1) (2 ^ a) m a (pow_pos a) h k (ap (λ (y : ℕ). y * 2 ^ a) (mul-one m))
 
 -- the exponent is in the range that `fits` tests by powers
-pow-back : (a b : ℕ) → 2 ^ a ≤ 2 ^ b → a ≤ b
-pow-back a b h = go (leb a b) (leb→le a b) (nleb→lt a b)
-  where
-    go : (q : Bool) → (T q → a ≤ b) → (T (not q) → b < a) → a ≤ b
-    go true u v = u tt
-    go false u v = absurd (lt_irrefl (2 ^ b) (lt_of_lt_of_le (pow-lt (v tt)) h))
+pub pow-back : (a b : ℕ) → 2 ^ a ≤ 2 ^ b → a ≤ b
+pow-back a b h = ⊎_elim (λ g. absurd (lt_irrefl (2 ^ b) (lt_of_lt_of_le (pow-lt g) h))) (λ g. g) (cases_lt b a)
+
+-- of the tests of `fits`: the significand is small, 2 ^ e is no less than the smallest float, and the float is less than the infinity
+pub of_fits : (s : Bool) (m : ℕ) (e : ℤ) → T (fits binary64 (fin s (suc m) e))
+    → (suc m < cap) × ((down e ≤ 2 ^ finest) × (suc m * up e < 2 ^ 1024 * down e))
+unfolding fits
+of_fits s m e p =
+    let A = eqb (suc m % 2) 1 in
+    let B = ltb (suc m) cap in
+    let C = leb (down e) (2 ^ finest) in
+    let D = ltb (suc m * up e) (2 ^ 1024 * down e) in
+    let q = and_l (A && B && C) D p in
+    (ltb→lt (suc m) cap (and_r A B (and_l (A && B) C q)), (leb→le (down e) (2 ^ finest) (and_r (A && B) C q), ltb→lt _ _ (and_r (A && B && C) D p)))
 
 -- the rounding of a float that fits has its value
 own : (s : Bool) (m : ℕ) (e : ℤ) → T (fits binary64 (fin s m e)) → HasValue (round binary64 s (m * up e) (down e)) s (m * up e) (down e)
@@ -69,19 +79,8 @@ unfolding fits
 own s zero e p =
     round_exact binary64 s (zero * up e) (down e) 0 0 (down_pos e) (lit< tt) (lit< tt)
     (ap (λ (y : ℕ). y * 2 ^ finest) (zero-mul (up e)) ∙ zero-mul (2 ^ finest) ∙ sym (zero-mul (down e)))
-own s (suc m) (pos a) p =
-    let A = eqb (suc m % 2) 1 in
-    let B = ltb (suc m) cap in
-    let C = leb (down (pos a)) (2 ^ finest) in
-    let D = ltb (suc m * up (pos a)) (2 ^ 1024 * down (pos a)) in
-    whole-up s (suc m) a (ltb→lt (suc m) cap (and_r A B (and_l (A && B) C (and_l (A && B && C) D p)))) (ltb→lt (suc m * 2 ^ a) (2 ^ 1024) (and_r (A && B && C) D p))
-own s (suc m) (negsuc a) p =
-    let A = eqb (suc m % 2) 1 in
-    let B = ltb (suc m) cap in
-    let C = leb (down (negsuc a)) (2 ^ finest) in
-    let D = ltb (suc m * up (negsuc a)) (2 ^ 1024 * down (negsuc a)) in
-    part_up s (suc m) (suc a) (ltb→lt (suc m) cap (and_r A B (and_l (A && B) C (and_l (A && B && C) D p))))
-    (pow-back (suc a) finest (leb→le (2 ^ suc a) (2 ^ finest) (and_r (A && B) C (and_l (A && B && C) D p))))
+own s (suc m) (pos a) p = let f = of_fits s m (pos a) p in whole-up s (suc m) a f.0 f.1.1
+own s (suc m) (negsuc a) p = let f = of_fits s m (negsuc a) p in part_up s (suc m) (suc a) f.0 (pow-back (suc a) finest f.1.0)
 
 pub round-self : (s : Bool) (m : ℕ) (e : ℤ) → T (fits binary64 (fin s m e)) → round binary64 s (m * up e) (down e) ≡ fin s m e
 round-self s m e p =

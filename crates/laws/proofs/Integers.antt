@@ -1,19 +1,19 @@
 -- Whole numbers by sign and size: `with_sign s k` is k with the sign s. Products, quotients and differences, and what a number that is not 0 determines.
 -- By cases on the sign. Assumes nothing.
 use mathlib.Core.Path.{◌≡◌, refl, sym, ap, ◌∙◌, subst}
-use mathlib.Core.Logic.{◌⊎◌, inl, inr, ◌≢◌, Ne-symm}
+use mathlib.Core.Logic.{◌⊎◌, inl, inr}
 use mathlib.Core.Bool.{Bool, true, false, not, ◌||◌}
 use Prim.Native.Nat.{ℕ, zero, suc, ◌+◌, ◌-◌, ◌*◌, ◌/◌, ◌%◌, ◌≤◌, ◌<◌}
-use native.Mathlib.Nat.{mul-pos, zero-mul, mul-zero, add-zero, le_of_lt, le_of_eq, lt_irrefl, div-add-mod', eq-zero-or-pos}
+use native.Mathlib.Nat.{mul-pos, zero-mul, mul-zero, add-zero, lt_irrefl, div-add-mod', eq-zero-or-pos}
 use native.Mathlib.Omega.{arith}
-use lib.Dec.{eqb, leb, ltb}
+use lib.Dec.{eqb, leb, ltb, lit<}
 use lib.IntN.{ℤ, pos, negsuc, neg_ℤ, nat_abs, ◌+ℤ◌, ◌*ℤ◌, pos-ne-negsuc}
 use lib.Signed.{lt_z, le_z, quot_z}
 use lib.Ieee.{unlike}
-use borrow.Author.Tests.{lt-ltb, le-ltb, le-leb, lt-leb, eq-eqb, ne_eqb}
+use borrow.Author.Tests.{lt-ltb, le-ltb}
+use Rattle.std.proofs.lemmas.Bool.Decides.{nat_tests}
 use Rattle.laws.proofs.Negatives.{unlike-twice}
-use Rattle.laws.specs.Dyadic.{with_sign, eq_z}
-use Rattle.laws.proofs.Cases.{lt-or-le, eq-or-ne}
+use Rattle.laws.specs.Dyadic.{with_sign, eq_z, cap}
 
 -- ---- sign and size
 
@@ -29,6 +29,9 @@ pub abs-sign : (s : Bool) (k : ℕ) → nat_abs (with_sign s k) ≡ k
 abs-sign false k = refl
 abs-sign true zero = refl
 abs-sign true (suc k) = refl
+
+pub one-small : (s : Bool) → nat_abs (with_sign s 1) < cap
+one-small s = rw (abs-sign s 1) (lit< tt)
 
 -- the size is that of the number
 pub abs-of : (s : Bool) (k : ℕ) (z : ℤ) → with_sign s k ≡ z → k ≡ nat_abs z
@@ -128,14 +131,7 @@ sub-lt k (suc l) h =
 -- ---- order
 
 lt-or-eq : (a b : ℕ) → (ltb a b || eqb a b) ≡ leb a b
-lt-or-eq a b = by (lt-or-le a b) (eq-or-ne a b)
-  where
-    by : (a < b) ⊎ (b ≤ a) → (a ≡ b) ⊎ (a ≢ b) → (ltb a b || eqb a b) ≡ leb a b
-    by (inl h) _ = rw (lt-ltb a b h, le-leb a b (le_of_lt h))
-    by (inr h) (inl e) = rw (le-ltb a b h, eq-eqb a b e, le-leb a b (le_of_eq e))
-    by (inr h) (inr e) =
-        let g : b < a = omega arith in
-        rw (le-ltb a b h, ne_eqb a b e, lt-leb a b g)
+lt-or-eq a b = grind (arith, nat_tests)
 
 pub le_is : (z w : ℤ) → (lt_z z w || eq_z z w) ≡ le_z z w
 le_is (pos a) (pos b) = lt-or-eq a b
@@ -144,8 +140,4 @@ le_is (negsuc a) (pos b) = refl
 le_is (negsuc a) (negsuc b) = ap (λ (t : Bool). ltb b a || t) (eqb_comm a b) ∙ lt-or-eq b a
   where
     eqb_comm : (a b : ℕ) → eqb a b ≡ eqb b a
-    eqb_comm a b = by (eq-or-ne a b)
-      where
-        by : (a ≡ b) ⊎ (a ≢ b) → eqb a b ≡ eqb b a
-        by (inl e) = rw (eq-eqb a b e, eq-eqb b a (sym e))
-        by (inr e) = rw (ne_eqb a b e, ne_eqb b a (Ne-symm e))
+    eqb_comm a b = grind (arith, nat_tests)

@@ -1,5 +1,4 @@
 -- The laws: on lists and slices, on tables, on floats, and on matrices in a slice. Assumes nothing.
-pub mod Cases
 pub mod Tests
 pub mod Views
 pub mod Lists
@@ -22,6 +21,7 @@ pub mod Maps
 pub mod BothSteps
 pub mod Exchange
 pub mod Negation
+pub mod Pairs
 pub mod Sweep
 pub mod Eliminations
 pub mod Examples

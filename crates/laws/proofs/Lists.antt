@@ -1,14 +1,14 @@
 -- Lists all of whose elements have a property, also by their places, and lists cut at the first element that passes a test. By induction on the list.
 -- Assumes nothing.
 use mathlib.Core.Path.{◌≡◌, refl, ap, subst}
-use mathlib.Core.Logic.{◌⊎◌, inl, inr, ◌≢◌}
-use mathlib.Core.Bool.{Bool, true, false, cond}
+use mathlib.Core.Logic.{⊎_elim}
+use mathlib.Core.Bool.{Bool, true, false}
 use mathlib.Core.List.{List, [], ◌∷◌, ◌++◌, reverse_aux}
 use Prim.Native.Nat.{ℕ, zero, suc, ◌+◌, ◌≤◌, ◌<◌}
 use native.Mathlib.Omega.{arith}
 use Rattle.laws.specs.Lists.{All}
 use Rattle.laws.specs.Views.{up_from, until, from}
-use Rattle.laws.proofs.Cases.{eq-or-ne}
+use Rattle.std.proofs.lemmas.Bool.{cases_eq, cases_Bool, cond_both}
 
 module _ {A : Type 0} where
   pub all_map : {P Q : A → Type 0} → ((x : A) → P x → Q x) → (xs : List A) → All P xs → All Q xs
@@ -33,11 +33,8 @@ module _ {A : Type 0} where
     pub all-at : (k n i : ℕ) → All P (up_from e k n) → k ≤ i → i < k + n → P (e i)
     unfolding up_from
     all-at k zero i h a b = absurd (omega arith)
-    all-at k (suc n) i h a b = by (eq-or-ne k i) (λ ne. all-at (suc k) n i h.1 (omega (arith, ne)) (omega arith))
-      where
-        by : (k ≡ i) ⊎ (k ≢ i) → (k ≢ i → P (e i)) → P (e i)
-        by (inl q) r = subst (λ (j : ℕ). P (e j)) q h.0
-        by (inr ne) r = r ne
+    all-at k (suc n) i h a b =
+        ⊎_elim (λ q. subst (λ (j : ℕ). P (e j)) q h.0) (λ ne. all-at (suc k) n i h.1 (omega (arith, ne)) (omega arith)) (cases_eq k i)
 
     pub all_of : (k n : ℕ) → ((i : ℕ) → k ≤ i → i < k + n → P (e i)) → All P (up_from e k n)
     unfolding up_from
@@ -50,39 +47,23 @@ module _ {A : Type 0} where
     pub whole : (xs : List A) → until p xs ++ from p xs ≡ xs
     unfolding until from
     whole [] = refl
-    whole (x ∷ xs) = by (p x) (whole xs)
-      where
-        by : (t : Bool) → until p xs ++ from p xs ≡ xs → cond t [] (x ∷ until p xs) ++ cond t (x ∷ xs) (from p xs) ≡ x ∷ xs
-        by true h = refl
-        by false h = ap (λ l. x ∷ l) h
+    whole (x ∷ xs) = ⊎_elim (λ e. rw e) (λ e. rw e (ap (λ l. x ∷ l) (whole xs))) (cases_Bool (p x))
 
     pub until-all : (P : A → Type 0) (xs : List A) → All P xs → All P (until p xs)
     unfolding until
     until-all P [] h = tt
-    until-all P (x ∷ xs) h = by (p x) (until-all P xs h.1)
-      where
-        by : (t : Bool) → All P (until p xs) → All P (cond t [] (x ∷ until p xs))
-        by true k = tt
-        by false k = (h.0, k)
+    until-all P (x ∷ xs) h = cond_both (p x) _ _ (All P) (λ _. tt) (λ _. (h.0, until-all P xs h.1))
 
     pub from_all : (P : A → Type 0) (xs : List A) → All P xs → All P (from p xs)
     unfolding from
     from_all P [] h = tt
-    from_all P (x ∷ xs) h = by (p x) (from_all P xs h.1)
-      where
-        by : (t : Bool) → All P (from p xs) → All P (cond t (x ∷ xs) (from p xs))
-        by true k = h
-        by false k = k
+    from_all P (x ∷ xs) h = cond_both (p x) _ _ (All P) (λ _. h) (λ _. from_all P xs h.1)
 
     -- none before it passes
     pub until-fails : (xs : List A) → All (λ x. p x ≡ false) (until p xs)
     unfolding until
     until-fails [] = tt
-    until-fails (x ∷ xs) = by (p x) refl (until-fails xs)
-      where
-        by : (t : Bool) → p x ≡ t → All (λ x. p x ≡ false) (until p xs) → All (λ x. p x ≡ false) (cond t [] (x ∷ until p xs))
-        by true e k = tt
-        by false e k = (e, k)
+    until-fails (x ∷ xs) = cond_both (p x) _ _ (All (λ x. p x ≡ false)) (λ _. tt) (λ e. (e, until-fails xs))
 
     -- it does
     abbrev pub Heads : List A → Type 0
@@ -92,8 +73,4 @@ module _ {A : Type 0} where
     pub from_heads : (xs : List A) → Heads (from p xs)
     unfolding from
     from_heads [] = tt
-    from_heads (x ∷ xs) = by (p x) refl (from_heads xs)
-      where
-        by : (t : Bool) → p x ≡ t → Heads (from p xs) → Heads (cond t (x ∷ xs) (from p xs))
-        by true e k = e
-        by false e k = k
+    from_heads (x ∷ xs) = cond_both (p x) _ _ Heads (λ e. e) (λ _. from_heads xs)

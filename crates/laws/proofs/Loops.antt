@@ -10,7 +10,7 @@ use lib.Ieee.{Float, nan}
 use borrow.Author.Tests.{lt-ltb, le-ltb}
 use Rattle.laws.specs.Matrix.{Mat, at, matrix, Is}
 use Rattle.laws.specs.Loops.{up_to}
-use Rattle.laws.proofs.Cases.{lt-or-le}
+use Rattle.std.proofs.lemmas.Bool.{cases_lt}
 use Rattle.laws.proofs.Matrix.{is-matrix}
 
 -- ---- turn n makes anew the entries whose key is n
@@ -31,7 +31,7 @@ module _ (key : ℕ → ℕ → ℕ) (new old : Mat) where
 
   pub none_from : (dim n : ℕ) (m : List Float) → ((r c : ℕ) → r < dim → c < dim → at dim m r c ≡ old r c)
       → ((r c : ℕ) → r < dim → c < dim → key r c < n → new r c ≡ old r c) → Is dim m (up_to key n new old) m
-  none_from dim n m e s = record { long = refl; each = λ r c h g. e r c h g ∙ one r c h g (lt-or-le (key r c) n); after = λ i h. refl }
+  none_from dim n m e s = record { long = refl; each = λ r c h g. e r c h g ∙ one r c h g (cases_lt (key r c) n); after = λ i h. refl }
     where
       one : (r c : ℕ) → r < dim → c < dim → (key r c < n) ⊎ (n ≤ key r c) → old r c ≡ up_to key n new old r c
       one r c h g (inl k) = sym (s r c h g k) ∙ sym (up_done n r c k)
@@ -46,7 +46,7 @@ module _ (key : ℕ → ℕ → ℕ) (new old : Mat) where
       → Is dim m₀ (up_to key (n + 1) new old) m'
   more dim n m₀ m m' w l a other own = record {
     long = l ∙ w.long;
-    each = λ r c h g. one r c h g (lt-or-le (key r c) n) (lt-or-le n (key r c));
+    each = λ r c h g. one r c h g (cases_lt (key r c) n) (cases_lt n (key r c));
     after = λ i h. a i h ∙ w.after i h;
   }
     where

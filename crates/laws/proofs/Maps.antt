@@ -14,7 +14,7 @@ use Rattle.laws.specs.Slices.{on_part}
 use Rattle.laws.specs.Matrix.{Mat, at, Is}
 use Rattle.laws.specs.Maps.{Local, inside, dot, under, rows, cols, column_turn, rotated, row_turn}
 use Rattle.laws.specs.Loops.{up_to, by_row, by_col}
-use Rattle.laws.proofs.Cases.{lt-or-le}
+use Rattle.std.proofs.lemmas.Bool.{cases_lt}
 use Rattle.laws.proofs.Views.{length-list_of, get_or-list_of}
 use Rattle.laws.proofs.Slices.{part_at, length-put, put-before, put-inside, put-after}
 use Rattle.laws.proofs.Matrix.{part_in, Within}
@@ -129,7 +129,7 @@ module _ (o : Local) (dim r : ℕ) (m₀ m : List Float) (h : r < dim) (band : o
 
   pub row_other : (r' c : ℕ) → r' < dim → c < dim → r' ≢ r → at dim (row_turn o dim r m) r' c ≡ at dim m r' c
   unfolding on_part a mid part
-  row_other r' c h' g ne = by (lt-or-le r' r) (lt-or-le r r')
+  row_other r' c h' g ne = by (cases_lt r' r) (cases_lt r r')
     where
       by : (r' < r) ⊎ (r ≤ r') → (r < r') ⊎ (r' ≤ r) → at dim (row_turn o dim r m) r' c ≡ at dim m r' c
       by (inl l) _ = put-before a o.width m part nan fit len (r' * dim + c) (omega (arith, suc-mul r' dim, mul-le-mul_right {m = suc r'} dim l))
@@ -138,7 +138,7 @@ module _ (o : Local) (dim r : ℕ) (m₀ m : List Float) (h : r < dim) (band : o
 
   pub row-own : ((c : ℕ) → c < dim → at dim m r c ≡ at dim m₀ r c) → (c : ℕ) → c < dim → at dim (row_turn o dim r m) r c ≡ cols o (at dim m₀) r c
   unfolding on_part a mid part rotated
-  row-own old c g = by (lt-or-le c s) (lt-or-le c (s + k))
+  row-own old c g = by (cases_lt c s) (cases_lt c (s + k))
     where
       s : ℕ
       s = o.start

@@ -13,7 +13,8 @@ use lib.Ieee.{Float, nan}
 use borrow.Author.Tests.{lt-ltb, le-ltb}
 use Rattle.laws.specs.Slices.{filled}
 use Rattle.laws.specs.Matrix.{Mat, at, matrix, Is, Inside}
-use Rattle.laws.proofs.Cases.{lt-or-le}
+use Rattle.std.proofs.lemmas.Bool.{cases_lt}
+use Rattle.std.proofs.lemmas.Nat.{same_from_place}
 use Rattle.laws.proofs.Slices.{filled-over}
 use Rattle.laws.proofs.Views.{length-list_of, get_or-list_of}
 
@@ -26,16 +27,9 @@ place_in dim r c h g = digits_lt h g
 pub part_in : (dim r s k : ℕ) → r < dim → s + k ≤ dim → r * dim + s + k ≤ dim * dim
 part_in dim r s k h b = omega (arith, suc-mul r dim, mul-le-mul_right {m = suc r} dim h)
 
--- the same within the list, as an index and a part ask it
-pub entry_in : {m : List Float} {dim r c : ℕ} → Inside m dim r c → r * dim + c < length m
-entry_in {dim = dim} {r} {c} w = le_trans (place_in dim r c w.row w.col) w.room
-
 -- two places are equal only if their rows and columns are
 pub row_of : (dim r c r' c' : ℕ) → c < dim → c' < dim → r * dim + c ≡ r' * dim + c' → r ≡ r'
-row_of dim r c r' c' g g' e = sym (digits_div r g) ∙ ap (λ n. n / dim) e ∙ digits_div r' g'
-
-pub col-of : (dim r c r' c' : ℕ) → c < dim → c' < dim → r * dim + c ≡ r' * dim + c' → c ≡ c'
-col-of dim r c r' c' g g' e = sym (digits_mod r g) ∙ ap (λ n. n % dim) e ∙ digits_mod r' g'
+row_of dim r c r' c' g g' e = (same_from_place r c r' c' dim g g' e).0
 
 -- a place below dim * dim has a row and a column
 record Place (dim i : ℕ) : Type 0 where
@@ -55,7 +49,7 @@ place (suc d) i h = record {
 
 pub is-matrix : (dim : ℕ) (m₀ : List Float) (f : Mat) (m : List Float) → Is dim m₀ f m → m ≡ matrix dim f m₀
 unfolding matrix
-is-matrix dim m₀ f m w = ext_get_or nan m (matrix dim f m₀) (w.long ∙ sym (length-list_of _ _)) (λ i h. one i (rw w.long at h) (lt-or-le i (dim * dim)))
+is-matrix dim m₀ f m w = ext_get_or nan m (matrix dim f m₀) (w.long ∙ sym (length-list_of _ _)) (λ i h. one i (rw w.long at h) (cases_lt i (dim * dim)))
   where
     one : (i : ℕ) → i < length m₀ → (i < dim * dim) ⊎ (dim * dim ≤ i) → get_or m i nan ≡ get_or (matrix dim f m₀) i nan
     one i h (inl g) =
@@ -71,7 +65,7 @@ matrix-is dim m₀ f m room e = record {
       let p = place_in dim r c h g in
       let q : r * dim + c < length m₀ = omega arith in
       rw (e, get_or-list_of _ _ (r * dim + c) nan q, lt-ltb (r * dim + c) (dim * dim) p, digits_div r g, digits_mod r g);
-  after = λ i h. rw e (past i h (lt-or-le i (length m₀)));
+  after = λ i h. rw e (past i h (cases_lt i (length m₀)));
 }
   where
     past : (i : ℕ) → dim * dim ≤ i → (i < length m₀) ⊎ (length m₀ ≤ i) → get_or (matrix dim f m₀) i nan ≡ get_or m₀ i nan
@@ -117,7 +111,7 @@ at_set_same dim r c m x h g room = get_or-set_same m (r * dim + c) x nan (le_tra
 
 pub at_set_other : (dim r c r' c' : ℕ) (m : List Float) (x : Float) → c < dim → c' < dim → (r' ≡ r → c' ≡ c → ⊥) → at dim (set m (r * dim + c) x) r' c' ≡ at dim m r' c'
 at_set_other dim r c r' c' m x g g' ne =
-    get_or-set_other m (r * dim + c) (r' * dim + c') x nan (λ e. ne (row_of dim r' c' r c g' g e) (col-of dim r' c' r c g' g e))
+    get_or-set_other m (r * dim + c) (r' * dim + c') x nan (λ e. let p = same_from_place r' c' r c dim g' g e in ne p.0 p.1)
 
 pub after-set : (dim r c i : ℕ) (m : List Float) (x : Float) → r < dim → c < dim → dim * dim ≤ i → get_or (set m (r * dim + c) x) i nan ≡ get_or m i nan
 after-set dim r c i m x h g b = get_or-set_other m (r * dim + c) i x nan (λ e. omega (arith, e, place_in dim r c h g))

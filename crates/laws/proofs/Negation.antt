@@ -2,7 +2,7 @@
 -- such loops add one after the other. Assumes nothing.
 use mathlib.Core.Path.{◌≡◌, sym, ap, ◌∙◌}
 use mathlib.Core.Logic.{◌⊎◌, inl, inr, ◌≢◌}
-use mathlib.Core.Bool.{Bool, true, false, cond}
+use mathlib.Core.Bool.{Bool, true, false}
 use mathlib.Core.List.{List}
 use Prim.Native.Nat.{ℕ, ◌+◌, ◌*◌, ◌≤◌, ◌<◌}
 use native.Mathlib.Nat.{le_of_eq}
@@ -16,18 +16,14 @@ use Rattle.laws.specs.Zeros.{sg}
 use Rattle.laws.specs.Matrix.{Mat, at, Is}
 use Rattle.laws.specs.Steps.{negated}
 use Rattle.laws.specs.Loops.{up_to, by_cross}
-use Rattle.laws.proofs.Cases.{eq-or-ne}
+use Rattle.std.proofs.lemmas.Bool.{cases_eq, cond_both}
 use Rattle.laws.proofs.Negatives.{sg-comm}
 use Rattle.laws.proofs.Matrix.{Within, at_set_same, at_set_other, after-set}
 use Rattle.laws.proofs.Loops.{more, up_left}
 
 -- every entry has its turn
 pub cross-below : (i n r c : ℕ) → r < n → c < n → by_cross i r c < n
-cross-below i n r c h g = by (eqb r i)
-  where
-    by : (t : Bool) → cond t c r < n
-    by true = g
-    by false = h
+cross-below i n r c h g = cond_both (eqb r i) _ _ (λ z. z < n) (λ _. g) (λ _. h)
 
 -- the entries (i, c) and (c, i) for c below n are negated
 abbrev pub Negated : ℕ → ℕ → List Float → ℕ → List Float → Type 0
@@ -74,14 +70,14 @@ negated-more i dim n m₀ m m₁ m₂ hi hn room w e₁ e₂ = more (by_cross i)
     in-col r c e = rw (ne_eqb r i e)
 
     other : (r c : ℕ) → r < dim → c < dim → by_cross i r c ≢ n → at dim m₂ r c ≡ at dim m r c
-    other r c h g k = by (eq-or-ne r i)
+    other r c h g k = by (cases_eq r i)
       where
         by : (r ≡ i) ⊎ (r ≢ i) → at dim m₂ r c ≡ at dim m r c
         by (inl e) = other₂ r c g (λ a b. k (in_row r c e ∙ b ∙ sym e ∙ a)) ∙ other₁ r c g (λ a b. k (in_row r c e ∙ b))
         by (inr e) = other₂ r c g (λ a b. k (in-col r c e ∙ a)) ∙ other₁ r c g (λ a b. e a)
 
     own : (r c : ℕ) → r < dim → c < dim → by_cross i r c ≡ n → at dim m₂ r c ≡ negated (λ j. eqb j i) (at dim m₀) r c
-    own r c h g k = by (eq-or-ne r i) (eq-or-ne c i)
+    own r c h g k = by (cases_eq r i) (cases_eq c i)
       where
         by : (r ≡ i) ⊎ (r ≢ i) → (c ≡ i) ⊎ (c ≢ i) → at dim m₂ r c ≡ negated (λ j. eqb j i) (at dim m₀) r c
         by (inl a) (inl b) =
@@ -108,7 +104,7 @@ negated-more i dim n m₀ m m₁ m₂ hi hn room w e₁ e₂ = more (by_cross i)
 
 -- where i is not marked yet, negating row i and column i marks it
 pub mark-more : (b : ℕ → Bool) (i : ℕ) (f : Mat) → b i ≡ false → (r c : ℕ) → negated (λ j. eqb j i) (negated b f) r c ≡ negated (update i true b) f r c
-mark-more b i f e r c = by (eq-or-ne r i) (eq-or-ne c i)
+mark-more b i f e r c = by (cases_eq r i) (cases_eq c i)
   where
     by : (r ≡ i) ⊎ (r ≢ i) → (c ≡ i) ⊎ (c ≢ i) → negated (λ j. eqb j i) (negated b f) r c ≡ negated (update i true b) f r c
     by (inl x) (inl y) = rw (eq-eqb r i x, eq-eqb c i y, ap b x ∙ e, ap b y ∙ e)

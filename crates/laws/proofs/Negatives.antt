@@ -3,14 +3,12 @@
 use mathlib.Core.Path.{◌≡◌, refl, sym, ap, ◌∙◌}
 use mathlib.Core.Bool.{Bool, true, false, not, xor, cond, not-not}
 use Prim.Native.Nat.{ℕ, zero, suc, ◌+◌, ◌-◌, ◌*◌, ◌/◌, ◌%◌, ◌^◌, ◌≤◌, ◌<◌, compare}
-use native.Mathlib.Nat.{mul-pos}
 use native.Mathlib.Omega.{arith}
 use lib.Dec.{T, ltb, eqb, nltb→le}
 use lib.Ieee.{Float, nan, inf, fin, Format, binary64, prec, emax, low, up, down, round, units, odd, size, nearest, sum, add, mul, neg, unlike}
-use lib.Ieee.Fits.{down_pos}
 use Rattle.laws.specs.Zeros.{+0, sg, nz}
 use Rattle.laws.specs.Maps.{dot}
-use Rattle.laws.proofs.Zeros.{round-zero, neg-cong, add_cong, mul-cong}
+use Rattle.laws.proofs.Zeros.{den, round-zero, neg-cong, add_cong, mul-cong}
 
 -- ---- the sign of a product
 
@@ -131,7 +129,7 @@ add-neg (inf true) (inf true) = refl
 add-neg (inf s) (fin t n d) = refl
 add-neg (fin s m e) nan = refl
 add-neg (fin s m e) (inf t) = refl
-add-neg (fin s m e) (fin t n d) = sum-neg s t (m * up e * down d) (n * up d * down e) (down e * down d) (mul-pos (down_pos e) (down_pos d))
+add-neg (fin s m e) (fin t n d) = sum-neg s t (m * up e * down d) (n * up d * down e) (down e * down d) (den e d)
 
 -- ---- signs in front
 

@@ -11,15 +11,9 @@ use lib.ListN.{length, get_or, take, drop, set, length-drop, get_or-append}
 use lib.Seq.{sets, sets-eq, drop-length, length-take-le, get_or-take, get_or-drop, get_or-append-add, ext_get_or}
 use borrow.Rule.Slice.PartMut.{put_mid, mid_len, same_len_mid}
 use Rattle.laws.specs.Slices.{on_part, turns, mapped_to, filled}
-use Rattle.laws.proofs.Cases.{lt-or-le}
+use Rattle.std.proofs.lemmas.Bool.{cases_lt}
 
 -- ---- reads and stores
-
--- within a list, what is read does not turn on the default
-pub get_d_any : {A : Type 0} (l : List A) (i : ℕ) (d e : A) → i < length l → get_or l i d ≡ get_or l i e
-get_d_any [] i d e h = absurd (not-suc-le-zero h)
-get_d_any (x ∷ l) zero d e h = refl
-get_d_any (x ∷ l) (suc i) d e h = get_d_any l i d e (le_of_suc-le-suc h)
 
 -- where every place is stored to, what was there before is gone
 pub all_set : {A : Type 0} (l vs : List A) → length l ≡ length vs → sets l 0 vs ≡ vs
@@ -138,7 +132,7 @@ module _ {A : Type 0} (f : A → A) where
 
 -- what was in the first n places does not matter to what is filled there
 pub filled-over : {A : Type 0} (n : ℕ) (v d : A) (l m : List A) → length m ≡ length l → ((i : ℕ) → n ≤ i → get_or m i d ≡ get_or l i d) → filled n v m ≡ filled n v l
-filled-over {A = A} n v d l m e h = ext_get_or d (filled n v m) (filled n v l) (long m ∙ e ∙ sym (long l)) (λ i g. one i (rw (long m) at g) (lt-or-le i n))
+filled-over {A = A} n v d l m e h = ext_get_or d (filled n v m) (filled n v l) (long m ∙ e ∙ sym (long l)) (λ i g. one i (rw (long m) at g) (cases_lt i n))
   where
     long : (l : List A) → length (filled n v l) ≡ length l
     long l = length-mapped (λ x. v) n l

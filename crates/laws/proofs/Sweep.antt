@@ -13,7 +13,7 @@ use borrow.Author.Tests.{eq-eqb, ne_eqb}
 use Rattle.laws.specs.Matrix.{Mat, at, matrix, Is}
 use Rattle.laws.specs.Steps.{Mask, masked, in_row}
 use Rattle.laws.specs.Loops.{up_to, by_row, by_col}
-use Rattle.laws.proofs.Cases.{lt-or-le}
+use Rattle.std.proofs.lemmas.Bool.{cases_lt}
 use Rattle.laws.proofs.Matrix.{matrix-is}
 use Rattle.laws.proofs.Loops.{up_done, up_left, none_from, more, made}
 use Rattle.laws.proofs.Columns.{entry_more}
@@ -43,7 +43,7 @@ module _ (key : ℕ → ℕ → ℕ) (p : Mask) (new : Mat) (dim : ℕ) where
   module _ (m₀ : List Float) (n : ℕ) (m : List Float) (w : Swept key p new dim m₀ n m) where
     -- an entry outside the mask is as it was, and so is one whose turn has not come
     pub sweep-out : (r c : ℕ) → r < dim → c < dim → p r c ≡ false → at dim m r c ≡ at dim m₀ r c
-    sweep-out r c h g e = w.each r c h g ∙ by (lt-or-le (key r c) n)
+    sweep-out r c h g e = w.each r c h g ∙ by (cases_lt (key r c) n)
       where
         by : (key r c < n) ⊎ (n ≤ key r c) → up_to key n (masked p new (at dim m₀)) (at dim m₀) r c ≡ at dim m₀ r c
         by (inl k) = up_done key _ _ n r c k ∙ masked_off p new (at dim m₀) r c e

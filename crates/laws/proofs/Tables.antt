@@ -1,17 +1,17 @@
 -- Laws of tables with one place changed or two places exchanged, and of the slices that hold them. By cases on the places. Assumes nothing.
 use mathlib.Core.Path.{◌≡◌, refl, sym, ap, ◌∙◌}
-use mathlib.Core.Logic.{◌⊎◌, inl, inr, ◌≢◌, Ne-symm}
-use mathlib.Core.Bool.{Bool, true, false, cond}
+use mathlib.Core.Logic.{◌⊎◌, inl, inr, ◌≢◌, Ne-symm, ⊎_elim}
 use mathlib.Core.List.{List}
 use mathlib.Mathlib.Logic.Function.Defs.{Injective}
-use Prim.Native.Nat.{ℕ, ◌<◌}
-use lib.Dec.{eqb}
+use Prim.Native.Nat.{ℕ, ◌≤◌, ◌<◌}
 use lib.ListN.{length, get_or, set, length-set}
 use lib.Seq.{get_or-set_same, get_or-set_other}
 use borrow.Author.Tests.{eq-eqb, ne_eqb}
+use native.Mathlib.Omega.{arith}
+use Rattle.std.proofs.lemmas.Bool.Decides.{nat_tests}
 use Rattle.laws.specs.Slices.{traded}
 use Rattle.laws.specs.Tables.{update, exchanged, exchange}
-use Rattle.laws.proofs.Cases.{eq-or-ne}
+use Rattle.std.proofs.lemmas.Bool.{cases_eq}
 
 -- ---- one place changed
 
@@ -24,11 +24,8 @@ module _ {A : Type 0} (w : ℕ) (v : A) (f : ℕ → A) where
 
 -- a store changes one place of the table that a list is
 pub get_or-update : {A : Type 0} (l : List A) (w : ℕ) (v d : A) → w < length l → (x : ℕ) → get_or (set l w v) x d ≡ update w v (λ i. get_or l i d) x
-get_or-update l w v d h x = by (eq-or-ne x w)
-  where
-    by : (x ≡ w) ⊎ (x ≢ w) → get_or (set l w v) x d ≡ update w v (λ i. get_or l i d) x
-    by (inl e) = rw (eq-eqb x w e, e) (get_or-set_same l w v d h)
-    by (inr e) = rw (ne_eqb x w e) (get_or-set_other l w x v d e)
+get_or-update l w v d h x =
+    ⊎_elim (λ e. rw (eq-eqb x w e, e) (get_or-set_same l w v d h)) (λ e. rw (ne_eqb x w e) (get_or-set_other l w x v d e)) (cases_eq x w)
 
 -- ---- two places changed
 
@@ -44,7 +41,7 @@ module _ {A : Type 0} (a b : ℕ) (u v : A) (f : ℕ → A) (ne : a ≢ b) where
 
   -- such a table is known by three cases
   pub by_two : (g : ℕ → A) → g a ≡ u → g b ≡ v → ((x : ℕ) → x ≢ a → x ≢ b → g x ≡ f x) → (x : ℕ) → g x ≡ update a u (update b v f) x
-  by_two g ga gb go x = by (eq-or-ne x a) (eq-or-ne x b)
+  by_two g ga gb go x = by (cases_eq x a) (cases_eq x b)
     where
       by : (x ≡ a) ⊎ (x ≢ a) → (x ≡ b) ⊎ (x ≢ b) → g x ≡ update a u (update b v f) x
       by (inl p) _ = ap g p ∙ ga ∙ sym (ap (update a u (update b v f)) p ∙ two-first)
@@ -58,26 +55,17 @@ module _ (a b : ℕ) where
   exchanged-first = rw (eq-eqb a a refl)
 
   pub exchanged-second : exchanged a b b ≡ a
-  exchanged-second = by (eq-or-ne b a)
-    where
-      by : (b ≡ a) ⊎ (b ≢ a) → exchanged a b b ≡ a
-      by (inl e) = rw (eq-eqb b a e) e
-      by (inr e) = rw (ne_eqb b a e, eq-eqb b b refl)
+  exchanged-second = grind (arith, nat_tests)
 
   pub exchanged-away : (x : ℕ) → x ≢ a → x ≢ b → exchanged a b x ≡ x
   exchanged-away x ha hb = rw (ne_eqb x a ha, ne_eqb x b hb)
 
   pub exchanged-twice : (x : ℕ) → exchanged a b (exchanged a b x) ≡ x
-  exchanged-twice x = by (eq-or-ne x a) (eq-or-ne x b)
-    where
-      by : (x ≡ a) ⊎ (x ≢ a) → (x ≡ b) ⊎ (x ≢ b) → exchanged a b (exchanged a b x) ≡ x
-      by (inl p) _ = ap (λ y. exchanged a b (exchanged a b y)) p ∙ ap (exchanged a b) exchanged-first ∙ exchanged-second ∙ sym p
-      by (inr p) (inl q) = ap (λ y. exchanged a b (exchanged a b y)) q ∙ ap (exchanged a b) exchanged-second ∙ exchanged-first ∙ sym q
-      by (inr p) (inr q) = ap (exchanged a b) (exchanged-away x p q) ∙ exchanged-away x p q
+  exchanged-twice x = grind (arith, nat_tests)
 
   -- a function that keeps numbers apart may be applied before or after
   pub exchanged-through : (φ : ℕ → ℕ) → Injective φ → (x : ℕ) → exchanged (φ a) (φ b) (φ x) ≡ φ (exchanged a b x)
-  exchanged-through φ inj x = by (eq-or-ne x a) (eq-or-ne x b)
+  exchanged-through φ inj x = by (cases_eq x a) (cases_eq x b)
     where
       by : (x ≡ a) ⊎ (x ≢ a) → (x ≡ b) ⊎ (x ≢ b) → exchanged (φ a) (φ b) (φ x) ≡ φ (exchanged a b x)
       by (inl p) _ = rw (eq-eqb x a p, eq-eqb (φ x) (φ a) (ap φ p))
@@ -85,19 +73,14 @@ module _ (a b : ℕ) where
       by (inr p) (inr q) = rw (ne_eqb x a p, ne_eqb x b q, ne_eqb (φ x) (φ a) (λ e. p (inj x a e)), ne_eqb (φ x) (φ b) (λ e. q (inj x b e)))
 
   pub exchanged-below : (n x : ℕ) → a < n → b < n → x < n → exchanged a b x < n
-  exchanged-below n x ha hb hx = by (eqb x a) (eqb x b)
-    where
-      by : (s t : Bool) → cond s b (cond t a x) < n
-      by true t = hb
-      by false true = ha
-      by false false = hx
+  exchanged-below n x ha hb hx = grind (arith, nat_tests)
+
+  -- nor does it lead before k
+  pub exchanged-from : (k x : ℕ) → k ≤ a → k ≤ b → k ≤ x → k ≤ exchanged a b x
+  exchanged-from k x ha hb hx = grind (arith, nat_tests)
 
 pub exchanged_same : (a x : ℕ) → exchanged a a x ≡ x
-exchanged_same a x = by (eq-or-ne x a)
-  where
-    by : (x ≡ a) ⊎ (x ≢ a) → exchanged a a x ≡ x
-    by (inl e) = rw (eq-eqb x a e) (sym e)
-    by (inr e) = rw (ne_eqb x a e)
+exchanged_same a x = grind (arith, nat_tests)
 
 -- ---- two places of a table exchanged
 
@@ -129,7 +112,7 @@ module _ {A : Type 0} (d : A) (a b : ℕ) (l : List A) where
 
   -- so do two places of the table that the list is
   pub get_or-traded : a < length l → b < length l → (x : ℕ) → get_or (traded d a b l) x d ≡ exchange a b (λ i. get_or l i d) x
-  get_or-traded ha hb x = by (eq-or-ne x a) (eq-or-ne x b)
+  get_or-traded ha hb x = by (cases_eq x a) (cases_eq x b)
     where
       l₁ : List A
       l₁ = set l a (get_or l b d)

@@ -10,7 +10,7 @@ use native.Mathlib.Numerals.{add-one}
 use native.Mathlib.Omega.{arith}
 use lib.ListN.{length, get_or}
 use Rattle.laws.specs.Views.{up_from, list_of, down_to, between, until, from, seek, gap, Step, Pass}
-use Rattle.laws.proofs.Cases.{eq-or-ne}
+use Rattle.std.proofs.lemmas.Bool.{cases_eq}
 
 -- ---- counted up
 
@@ -152,7 +152,7 @@ module _ (q : ℕ → Bool) where
   pub seek-fails : (n : ℕ) → seek q n ≡ 0 → (i : ℕ) → i < n → q i ≡ false
   unfolding seek
   seek-fails zero e i h = absurd (not-suc-le-zero h)
-  seek-fails (suc n) e i h = go (q n) refl e (seek-fails n) (eq-or-ne i n)
+  seek-fails (suc n) e i h = go (q n) refl e (seek-fails n) (cases_eq i n)
     where
       go : (b : Bool) → q n ≡ b → cond b (suc n) (seek q n) ≡ 0 → (seek q n ≡ 0 → (i : ℕ) → i < n → q i ≡ false) → (i ≡ n) ⊎ (i ≢ n) → q i ≡ false
       go true e g k _ = absurd (omega arith)

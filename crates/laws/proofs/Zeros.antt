@@ -12,7 +12,7 @@ use lib.Ieee.Fits.{up_pos, down_pos}
 use lib.Ieee.Exact.{HasValue, round_exact}
 use lib.Ieee.Scale.{round_same}
 use borrow.Author.Tests.{lt-ltb}
-use Rattle.laws.specs.Zeros.{+0, +1, nz}
+use Rattle.laws.specs.Zeros.{+0, +1, nz, sg}
 
 -- ---- the literals 0.0 and 1.0, as code has them
 
@@ -23,6 +23,12 @@ zero_bits = refl
 pub one-bits : of_bits binary64 0x3ff0_0000_0000_0000 ≡ +1
 unfolding of_bits
 one-bits = refl
+
+-- a sign is told by what is below 0.0
+pub lt-sign : (s : Bool) → lt (sg s +1) +0 ≡ s
+unfolding lt neg
+lt-sign false = refl
+lt-sign true = refl
 
 -- ---- only zeros lose their sign
 
@@ -167,7 +173,7 @@ mul-nz (fin s (suc m) e) (fin t (suc n) d) = refl
 
 -- ---- a quotient, where the divisor is no zero
 
-more : (n : ℕ) (d e : ℤ) → 0 < suc n * up d * down e
+pub more : (n : ℕ) (d e : ℤ) → 0 < suc n * up d * down e
 more n d e = mul-pos (mul-pos (zero-lt-suc n) (up_pos d)) (down_pos e)
 
 zero-over : (b : Bool) (e : ℤ) (n : ℕ) (d : ℤ)

@@ -1,6 +1,7 @@
 // The leaves as a static library, for timing and comparison from C and Rust (bench/). A matrix is 8
 // or 32 floats, row by row, real before imaginary. A slice that is too short reads as zeros, and
-// nothing is written to one. C names each size and each function by itself.
+// nothing is written to one. C names each size and each function by itself, and passes the
+// slices one by one.
 
 #![tactic(auto, unfolding(crate::specs::Slices::first2_of, crate::specs::Slices::first4_of, crate::specs::Slices::put2_of, crate::specs::Slices::put4_of))]
 
@@ -130,7 +131,7 @@ pub extern "C" fn leaf_swap_qubits(a: &[f64], out: &mut [f64])
     put(out, gate::mat4_swap_qubits(first(a)));
 }
 
-// The 4 entries of a map of one mode, its residual and zeros, as the 8 floats of a matrix.
+// The 4 entries of a map of one mode, its residual and zeros, as the 8 floats of a matrix. For each size a function: entries are fields.
 #[tactic(auto, unfolding(crate::specs::Classes::flat2_of))]
 fn flat2(m: Mapped<Map2>) -> Mat2
     ensures { result ≡ flat2_of m }

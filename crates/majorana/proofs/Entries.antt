@@ -79,3 +79,9 @@ zy-times u = refl
 
 pub times3-is : (u : Mat4) → mul4_of majorana3 u ≡ mat4 (scaled_of c-i u.r1) (scaled_of ci u.r0) (scaled_of ci u.r3) (scaled_of c-1i u.r2)
 times3-is u = ap (λ m. mul4_of m u) majorana3-is ∙ zy-times u
+
+-- ---- for the functions' attributes
+
+pub ruleset operators = (majorana0-is, majorana1-is, majorana2-is, majorana3-is)
+
+pub ruleset products = (times0-is, times1-is, times2-is, times3-is)

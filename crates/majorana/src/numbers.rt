@@ -53,7 +53,7 @@ pub fn commutes_j2(q: Map2) -> bool
     num::abs(q.r0.x0 - q.r1.x1) < SLACK && num::abs(q.r0.x1 + q.r1.x0) < SLACK
 }
 
-// A row times the column (w, x, y, z).
+// A row times the column (w, x, y, z): the sum of `dot4` in crate local, which this crate does not need.
 #[tactic(auto, unfolding(crate::specs::Numbers::dot4_of))]
 fn dot(row: Real4, w: f64, x: f64, y: f64, z: f64) -> f64
     ensures { result ≡ dot4_of row (real4 w x y z) }

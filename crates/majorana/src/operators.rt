@@ -124,6 +124,7 @@ fn scaled(x: Complex, row: Row4) -> Row4
 }
 
 // X on the first qubit, times u: the operators' rows have one entry each.
+#[tactic(auto, using(crate::proofs::Entries::products))]
 pub fn times0(u: Mat4) -> Mat4
     ensures { result ≡ mul4_of majorana0 u }
 {
@@ -135,6 +136,7 @@ pub fn times0(u: Mat4) -> Mat4
 }
 
 // Y on the first qubit, times u.
+#[tactic(auto, using(crate::proofs::Entries::products))]
 pub fn times1(u: Mat4) -> Mat4
     ensures { result ≡ mul4_of majorana1 u }
 {
@@ -146,6 +148,7 @@ pub fn times1(u: Mat4) -> Mat4
 }
 
 // Z on the first qubit and X on the second, times u.
+#[tactic(auto, using(crate::proofs::Entries::products))]
 pub fn times2(u: Mat4) -> Mat4
     ensures { result ≡ mul4_of majorana2 u }
 {
@@ -157,6 +160,7 @@ pub fn times2(u: Mat4) -> Mat4
 }
 
 // Z on the first qubit and Y on the second, times u.
+#[tactic(auto, using(crate::proofs::Entries::products))]
 pub fn times3(u: Mat4) -> Mat4
     ensures { result ≡ mul4_of majorana3 u }
 {

@@ -34,6 +34,7 @@ fn trace(c: Mat4, w: Mat4) -> f64
 }
 
 // The coefficients of w in the four operators.
+#[tactic(auto, using(crate::proofs::Entries::operators), unfolding(crate::specs::Majorana::coefficients4_of, crate::specs::Majorana::coefficient4_of))]
 fn coefficients(w: Mat4) -> Real4
     ensures { result ≡ coefficients4_of w }
 {

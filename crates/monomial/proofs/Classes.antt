@@ -2,7 +2,7 @@
 -- zeros. A block that fits is diagonal without phase or a matchgate; one that does not is an interaction or neither without relabelling, and with it
 -- the same of v = SWAP · u, which fits. Assumes nothing.
 use mathlib.Core.Path.{◌≡◌, refl, ap, ◌∙◌, subst}
-use mathlib.Core.Bool.{Bool, true, false, not, cond, ◌&&◌, ◌||◌}
+use mathlib.Core.Bool.{Bool, true, false, not, cond, ◌&&◌, ◌||◌, or-false}
 use lib.Ieee.{Float, le}
 use Rattle.laws.specs.Phase.{Phase}
 use Rattle.num.specs.Order.{min_of}
@@ -161,7 +161,3 @@ module _ (tol : Float) (ok : Tolerance tol) (u : Mat4) (b : Mono4) (U : Has4 u b
       (swapped-class F i)))
       ∙ ap (λ (d : Bool). cond (diagonal (swapped b)) (class2 Diag true (swap4_of u) true) (class2 (Match f0) true (swap4_of u) d))
       (or-false (diagonal b))
-    where
-      or-false : (d : Bool) → (d || false) ≡ d
-      or-false false = refl
-      or-false true = refl

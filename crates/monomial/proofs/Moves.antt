@@ -14,8 +14,8 @@ use borrow.Author.Tests.{eq-eqb, ne_eqb}
 use Rattle.laws.specs.Dyadic.{Dy, cap, with_sign}
 use Rattle.laws.specs.Matrix.{Mat}
 use Rattle.laws.specs.Maps.{Local, inside, dot, under, rows, cols}
-use Rattle.laws.proofs.Cases.{eq-or-ne}
-use Rattle.laws.proofs.Integers.{abs_neg}
+use Rattle.std.proofs.lemmas.Bool.{cases_eq}
+use Rattle.laws.proofs.Integers.{abs_neg, one-small}
 use Rattle.laws.proofs.Dyadic.{add-dy, mul-dy}
 use Rattle.laws.proofs.Maps.{rows_in, cols-in}
 use Rattle.monomial.specs.Basis.{basis, Block, Signed, signed, row_z, Permutes, permuted}
@@ -36,13 +36,9 @@ one-times true (negsuc n) = negsuc-*ℤ-negsuc 0 n ∙ ap pos (one-mul (suc n))
 pub basis-small : (b : ℕ → Bool) (r c : ℕ) → nat_abs (basis b r c) < cap
 basis-small b r c = either (eqb (r % 2) 0 && eqb c (r + 1)) (eqb (c % 2) 0 && eqb r (c + 1)) (b (r / 2)) (not (b (c / 2)))
   where
-    one : (s : Bool) → nat_abs (with_sign s 1) < cap
-    one false = lit< tt
-    one true = lit< tt
-
     either : (p q s t : Bool) → nat_abs (cond p (with_sign s 1) (cond q (with_sign t 1) (pos 0))) < cap
-    either true q s t = one s
-    either false true s t = one t
+    either true q s t = one-small s
+    either false true s t = one-small t
     either false false s t = lit< tt
 
 -- ---- a row with one entry
@@ -78,7 +74,7 @@ module _ (q v : ℕ → Float) (e : Signed) (z : ℕ → ℤ) (n : ℕ) (small :
   after : (k : ℕ) → k ≤ n → e.at < k → Dy 0 (signed e.minus (z e.at)) (dot q v k)
   unfolding dot
   after zero h g = absurd (lt_irrefl 0 (omega arith))
-  after (suc k) h g = by (λ l. after k (omega arith) l) (eq-or-ne e.at k)
+  after (suc k) h g = by (λ l. after k (omega arith) l) (cases_eq e.at k)
     where
       x : ℤ
       x = signed e.minus (z e.at)

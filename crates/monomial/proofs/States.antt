@@ -11,11 +11,13 @@ use lib.IntN.{ℤ, pos}
 use lib.Ieee.Bits.{is_false}
 use lib.Ieee.Fits.{and_l, and_r}
 use borrow.Author.Tests.{eq-eqb, ne_eqb}
+use Rattle.std.proofs.lemmas.Bool.Decides.{nat_tests}
+use Rattle.laws.proofs.Tests.{no-pair}
 use Rattle.laws.specs.Dyadic.{Dy, with_sign}
 use Rattle.laws.specs.Matrix.{Mat}
 use Rattle.laws.specs.Maps.{Local, inside, rows, cols}
 use Rattle.laws.specs.Phase.{Phase}
-use Rattle.laws.proofs.Cases.{lt-or-le, eq-or-ne}
+use Rattle.std.proofs.lemmas.Bool.{cases_lt, cases_eq}
 use Rattle.laws.proofs.Maps.{inside-below, inside-above, rows_out, cols-out}
 use Rattle.real.specs.Maps.{entry2, entry4}
 use Rattle.gate.specs.declared.complex.Complex.{Complex}
@@ -41,16 +43,8 @@ basis-same b b' r c e f =
 -- in different modes it is 0
 pub basis-apart : (b : ℕ → Bool) (r c : ℕ) → r / 2 ≢ c / 2 → basis b r c ≡ pos 0
 basis-apart b r c n =
-    λ t. cond (no-pair r c n t) (with_sign (b (r / 2)) 1) (cond (no-pair c r (λ e. n (sym e)) t) (with_sign (not (b (c / 2))) 1) (pos 0))
-  where
-    one-mode : (r c : ℕ) → r % 2 ≡ 0 → c ≡ r + 1 → r / 2 ≡ c / 2
-    one-mode r c h k = omega arith
-
-    no-pair : (r c : ℕ) → r / 2 ≢ c / 2 → (eqb (r % 2) 0 && eqb c (r + 1)) ≡ false
-    no-pair r c n =
-        is_false (eqb (r % 2) 0 && eqb c (r + 1))
-        (not_T (eqb (r % 2) 0 && eqb c (r + 1)) (λ t.
-        n (one-mode r c (eqb→eq (r % 2) 0 (and_l (eqb (r % 2) 0) (eqb c (r + 1)) t)) (eqb→eq c (r + 1) (and_r (eqb (r % 2) 0) (eqb c (r + 1)) t)))))
+    λ t. cond (no-pair r c (λ h k. n (omega arith)) t) (with_sign (b (r / 2)) 1)
+    (cond (no-pair c r (λ h k. n (omega arith)) t) (with_sign (not (b (c / 2))) 1) (pos 0))
 
 -- counted from the mode k on
 basis-from : (b : ℕ → Bool) (k i j : ℕ) → basis b (2 * k + i) (2 * k + j) ≡ basis (λ n. b (k + n)) i j
@@ -65,11 +59,7 @@ basis-from b k i j =
     mode k i = omega arith
 
     next : (k i j : ℕ) → eqb (2 * k + j) (2 * k + i + 1) ≡ eqb j (i + 1)
-    next k i j = by (eq-or-ne j (i + 1))
-      where
-        by : (j ≡ i + 1) ⊎ (j ≢ i + 1) → eqb (2 * k + j) (2 * k + i + 1) ≡ eqb j (i + 1)
-        by (inl e) = eq-eqb (2 * k + j) (2 * k + i + 1) (omega arith) ∙ sym (eq-eqb j (i + 1) e)
-        by (inr n) = ne_eqb (2 * k + j) (2 * k + i + 1) (λ e. n (omega arith)) ∙ sym (ne_eqb j (i + 1) n)
+    next k i j = grind (arith, nat_tests)
 
 -- ---- a map of w modes from the mode k on
 
@@ -82,7 +72,7 @@ data Place (k w : ℕ) (q : Mat) : ℕ → Type 0 where
   beyond : {r : ℕ} → inside (modes_at k w q) r ≡ false → (r / 2 < k) ⊎ (k + w ≤ r / 2) → Place k w q r
 
 place : (k w : ℕ) (q : Mat) (r : ℕ) → Place k w q r
-place k w q r = by (lt-or-le r (2 * k)) (lt-or-le r (2 * k + 2 * w))
+place k w q r = by (cases_lt r (2 * k)) (cases_lt r (2 * k + 2 * w))
   where
     low : r < 2 * k → r / 2 < k
     low h = omega arith

@@ -174,6 +174,7 @@ const ISWAPDG: Mat4 = Mat4 {
 const TWO_QUBIT: [Mat4; 5] = [CNOT, CZ, SWAP, ISWAP, ISWAPDG];
 
 // The matrix of a named one-qubit gate.
+#[tactic(auto, unfolding(crate::specs::Table::matrix1q_of))]
 pub fn matrix_1q(code: usize) -> Mat2
     requires { code < 9 }
     ensures { result ≡ matrix1q_of code }

@@ -20,9 +20,6 @@ is-nan nan e = refl
 is-nan (inf s) e = cc
 is-nan (fin s m d) e = cc
 
-pub not-nan : (x : Float) → is_nan x ≡ false → T (not (is_nan x))
-not-nan x e = rw e tt
-
 -- the patterns of a NaN lie above the infinity's, the sign aside
 pub nan-test : (b : ℕ) → is_nan (of_bits binary64 b) ≡ ltb inf_bits (b % 2 ^ 63)
 nan-test b = sym (nan_bits_is binary64 b) ∙ nan_bits_above binary64 b

@@ -3,9 +3,8 @@
 use mathlib.Core.Path.{◌≡◌, refl, sym, ap, ◌∙◌, subst}
 use Prim.Native.Nat.{ℕ, zero, suc, ◌+◌, ◌-◌, ◌*◌, ◌/◌, ◌%◌, ◌^◌, ◌≤◌, ◌<◌}
 use lib.IntN.{ℤ, pos}
-use native.Mathlib.Nat.{zero-mul, zero-div, le_of_suc-le-suc, lt_of_not-le, not-le_of_lt, mul_comm, mul_right_comm, mul_assoc, mul-pos, mul-div_cancel, mul-le-mul_right, mul-lt-mul_of_pos_right, lt_of_mul-lt-mul_right}
+use native.Mathlib.Nat.{zero-mul, zero-div, le_of_suc-le-suc, mul_comm, mul_right_comm, mul_assoc, mul-pos, mul-div_cancel, mul-le-mul_right, mul-lt-mul_of_pos_right, lt_of_mul-lt-mul_right, pos_of_ne-zero, le_of_mul-le-mul_right}
 use native.Mathlib.Omega.{arith}
-use native.Mathlib.Decide.{dec_le}
 use mathlib.Core.Bool.{Bool, true, false, cond}
 use lib.Dec.{T, leb, eqb}
 use lib.Pow.{pow_pos}
@@ -134,11 +133,8 @@ by-grains (inf s) t f g p q h = absurd p
 -- what is not zero has grains
 pub some-grains : (m : ℕ) (e : ℤ) → T (fits binary64 (fin false (suc m) e)) → 0 < grains (fin false (suc m) e)
 unfolding grains fits
-some-grains m e h = above (grains (fin false (suc m) e)) (λ z. no (by-grains (fin false (suc m) e) (fin false 0 (pos 0)) h tt tt tt z))
+some-grains m e h = pos_of_ne-zero (λ z. no (by-grains (fin false (suc m) e) (fin false 0 (pos 0)) h tt tt tt z))
   where
-    above : (g : ℕ) → (g ≡ 0 → ⊥) → 0 < g
-    above g h = omega arith
-
     no : fin false (suc m) e ≡ fin false 0 (pos 0) → ⊥
     no p = let z : suc m ≡ 0 = cc in omega arith
 
@@ -146,7 +142,7 @@ some-grains m e h = above (grains (fin false (suc m) e)) (λ z. no (by-grains (f
 
 -- two fractions a / d and b / e with a * p = g * d and b * p = h * e compare as g and h do
 cross : (a b g h d e p : ℕ) → 0 < p → 0 < d → 0 < e → a * p ≡ g * d → b * p ≡ h * e → (g < h → a * e < b * d) × (h ≤ g → b * d ≤ a * e)
-cross a b g h d e p P D E A B = (below, λ l. back (dec_le (b * d) (a * e)) l)
+cross a b g h d e p P D E A B = (below, back)
   where
     left : a * e * p ≡ g * (d * e)
     left = mul_right_comm a e p ∙ ap (λ (z : ℕ). z * e) A ∙ mul_assoc g d e
@@ -157,11 +153,8 @@ cross a b g h d e p P D E A B = (below, λ l. back (dec_le (b * d) (a * e)) l)
     below : g < h → a * e < b * d
     below l = lt_of_mul-lt-mul_right p (rw (left, right) (mul-lt-mul_of_pos_right l (mul-pos D E)))
 
-    back : Dec (b * d ≤ a * e) → h ≤ g → b * d ≤ a * e
-    back (yes l) k = l
-    back (no f) k =
-        let s : g * (d * e) < h * (d * e) = rw (left, right) at (mul-lt-mul_of_pos_right (lt_of_not-le f) P) in
-        absurd (not-le_of_lt s (mul-le-mul_right (d * e) k))
+    back : h ≤ g → b * d ≤ a * e
+    back k = le_of_mul-le-mul_right (rw (left, right) (mul-le-mul_right (d * e) k)) P
 
 pub plain-lt : (a b : Float) → T (fits binary64 a) → T (fits binary64 b) → T (plain a) → T (plain b)
     → (grains a < grains b → lt a b ≡ true) × (grains b ≤ grains a → lt a b ≡ false)

@@ -3,7 +3,7 @@
 use mathlib.Core.Path.{◌≡◌, refl, sym, ap, ◌∙◌, subst}
 use mathlib.Core.Logic.{◌⊎◌, inl, inr}
 use Prim.Native.Nat.{ℕ, zero, suc, ◌+◌, ◌*◌, ◌≤◌, ◌<◌, zero-le}
-use native.Mathlib.Nat.{zero-lt-suc, zero-mul, le_of_lt, le_of_eq, lt_of_not-le, not-le_of_lt, eq-or-lt_of_le, mul-pos}
+use native.Mathlib.Nat.{zero-lt-suc, le_of_lt, le_of_eq, lt_of_not-le, not-le_of_lt, eq-or-lt_of_le, mul-pos}
 use native.Mathlib.Omega.{arith}
 use native.Mathlib.Decide.{dec_le}
 use lib.IntN.{ℤ, negsuc}
@@ -11,9 +11,9 @@ use mathlib.Core.Bool.{true, false}
 use lib.Dec.{T, ltb}
 use lib.Pow.{pow_pos}
 use lib.Ieee.{Float, nan, inf, fin, binary64, fits, up, down, is_nan, lt}
-use lib.Ieee.Fits.{up_pos, down_pos}
 use lib.Ieee.Scale.{finite}
 use borrow.Author.Tests.{lt-ltb, le-ltb}
+use Rattle.laws.proofs.Zeros.{flat, more}
 use Rattle.num.specs.Root.{per_one, grains, plain, Nearest, RootOf, sqrt_of}
 use Rattle.num.specs.Order.{max_of}
 use Rattle.num.proofs.Grains.{plain-number, plain-finite, zero-grains, some-grains, by-grains, plain-lt}
@@ -52,43 +52,27 @@ some-root x r N h = go (grains r) (grains x) h (N.above (fin false 1 (negsuc 107
 
 -- ---- comparisons
 
--- the side of a zero, and that of another number
-none : (u d : ℕ) → 0 * u * d ≡ 0
-none u d = ap (λ (z : ℕ). z * d) (zero-mul u) ∙ zero-mul d
-
-some : (m : ℕ) (e d : ℤ) → 0 < suc m * up e * down d
-some m e d = mul-pos (mul-pos (zero-lt-suc m) (up_pos e)) (down_pos d)
-
 -- a number below zero is below a zero and below what has no minus sign
 minus-zero : (m : ℕ) (e d : ℤ) → lt (fin true (suc m) e) (fin true zero d) ≡ true
 unfolding lt
-minus-zero m e d = ap (λ (z : ℕ). ltb z (suc m * up e * down d)) (none (up d) (down e)) ∙ lt-ltb 0 (suc m * up e * down d) (some m e d)
+minus-zero m e d = ap (λ (z : ℕ). ltb z (suc m * up e * down d)) (flat (up d) (down e)) ∙ lt-ltb 0 (suc m * up e * down d) (more m e d)
 
 minus-plain : (m n : ℕ) (e d : ℤ) → lt (fin true (suc m) e) (fin false n d) ≡ true
 unfolding lt
-minus-plain m n e d = lt-ltb 0 (suc m * up e * down d + n * up d * down e) (sum (suc m * up e * down d) (n * up d * down e) (some m e d))
-  where
-    sum : (a b : ℕ) → 0 < a → 0 < a + b
-    sum a b h = omega arith
+minus-plain m n e d = lt-ltb 0 (suc m * up e * down d + n * up d * down e) (omega (arith, more m e d))
 
 -- -0.0 is not below a number below zero, and is below one above zero
 zero_minus : (n : ℕ) (e d : ℤ) → lt (fin true zero e) (fin true (suc n) d) ≡ false
 unfolding lt
-zero_minus n e d = ap (λ (z : ℕ). ltb (suc n * up d * down e) z) (none (up e) (down d)) ∙ le-ltb (suc n * up d * down e) 0 zero-le
+zero_minus n e d = ap (λ (z : ℕ). ltb (suc n * up d * down e) z) (flat (up e) (down d)) ∙ le-ltb (suc n * up d * down e) 0 zero-le
 
 zero-some : (e : ℤ) (y : Float) → T (plain y) → 0 < grains y → lt (fin true zero e) y ≡ true
 unfolding lt
 zero-some e nan p h = absurd p
 zero-some e (inf t) p h = absurd p
 zero-some e (fin true n d) p h = absurd p
-zero-some e (fin false zero d) p h = absurd (no (grains (fin false zero d)) (zero-grains false d) h)
-  where
-    no : (g : ℕ) → g ≡ 0 → 0 < g → ⊥
-    no g e h = omega arith
-zero-some e (fin false (suc n) d) p h = lt-ltb 0 (0 * up e * down d + suc n * up d * down e) (sum (0 * up e * down d) (suc n * up d * down e) (some n d e))
-  where
-    sum : (a b : ℕ) → 0 < b → 0 < a + b
-    sum a b h = omega arith
+zero-some e (fin false zero d) p h = absurd (omega (arith, zero-grains false d))
+zero-some e (fin false (suc n) d) p h = lt-ltb 0 (0 * up e * down d + suc n * up d * down e) (omega (arith, more n d e))
 
 -- ---- the larger, with a special operand
 

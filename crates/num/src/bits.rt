@@ -1,4 +1,5 @@
-// f64 from and to its bits, and little-endian numbers in bytes.
+// f64 from and to its bits, and little-endian numbers in bytes. A number is read from a place in the bytes: a caller that cut a slice of its own first would
+// owe the same bound there.
 
 ghost use Rattle.std.specs.Prelude.{◌≡◌, ◌+◌, ◌^◌, ◌≤◌, ◌<◌, length};
 ghost use Rattle.std.specs.Float.{binary64};
@@ -33,7 +34,8 @@ pub fn to_bits(x: f64) -> u64
     x.to_bits()
 }
 
-// The number in the 2 bytes from `at` on, the lowest first.
+// The number in the 2 bytes from `at` on, the lowest first. For each size a function: `from_le_bytes` is each type's own.
+#[tactic(auto, unfolding(crate::specs::Bits::le16))]
 pub fn u16_at(s: &[u8], at: usize) -> u64
     requires { at + 2 ≤ length s.now }
     ensures value { result ≡ le16 s.now at }
@@ -43,6 +45,7 @@ pub fn u16_at(s: &[u8], at: usize) -> u64
 }
 
 // The number in 8 bytes.
+#[tactic(auto, unfolding(crate::specs::Bits::le64, crate::specs::Bits::le32, crate::specs::Bits::le16))]
 pub fn u64_at(s: &[u8], at: usize) -> u64
     requires { at + 8 ≤ length s.now }
     ensures value { result ≡ le64 s.now at }

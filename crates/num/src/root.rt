@@ -94,6 +94,7 @@ struct Square {
 }
 
 // r * r, which one word does not hold.
+#[tactic(auto, using(std::proofs::lemmas::Bool::Decides::nat_tests, crate::proofs::root::Tested::bounds, crate::proofs::root::Tested::square))]
 fn square_of(r: u64) -> Square
     requires { r ≤ 2 ^ 53 }
     ensures { SquareOf r result.k result.low }

@@ -1,6 +1,6 @@
 -- The text of what was read is that of the whole input: either all of it was read, or both are too big. Assumes nothing.
 use Rattle.std.proofs.Common.{◌≡◌, ℕ, ◌<◌, ◌≤◌, true, List, [], ◌++◌, length, inl, inr, refl, sym, ap, ◌∙◌, subst, arith, length-append}
-use Rattle.std.specs.Prelude.{Option, None, Some, IfSome, Result, Ok, Err, OnOk, ◌⊎◌}
+use Rattle.std.specs.Prelude.{Option, None, Some, IfSome, ◌⊎◌}
 use Rattle.std.proofs.lemmas.Bool.{lt-ltb}
 use Rattle.std.proofs.lemmas.List.{append-nil}
 use Rattle.std.proofs.Math.Nat.{eq-or-lt_of_le}
@@ -34,8 +34,3 @@ pub written : (before after : Option (List ℕ)) (bs : List ℕ) (room : ℕ) �
 written None after bs room h fits consumed end old new out = tt
 written (Some xs) None bs room h fits consumed end old new out = absurd consumed
 written (Some xs) (Some ys) bs room h fits consumed end old new out = subst (λ tape. Appends old new tape) (same bs ys room h fits end ∙ ap printed (sym consumed)) out
-
--- where the call succeeds
-pub on_ok : {T E : Type 0} (r : Result T E) (P Q : Type 0) → (P → Q) → OnOk r P → OnOk r Q
-on_ok (Ok x) P Q f p = f p
-on_ok (Err e) P Q f p = tt

@@ -17,7 +17,8 @@ pub fn large_buffer() -> [u8; 65536]
     [0; 65536]
 }
 
-// Reads until the slice is full or the input ends: how many bytes stand at its start now. Where the reader's bytes are known, they are the first of these.
+// Reads until the slice is full or the input ends: how many bytes stand at its start now, as std's `read` answers. Where the reader's bytes are known, they
+// are the first of these.
 pub fn read_full<R: Read>(reader: &mut R, space: &mut [u8]) -> io::Result<usize>
     ensures count { ReadsAtMost result space.new }
     ensures bytes { IfOk result (λ n. Consumes (R.remaining reader.old) (R.remaining reader.new) (take n space.new)) }

@@ -1,14 +1,14 @@
 -- Gates act on bits as the runs of events ask: the laws of products and renamings are those of the bits that are read from matrices, and gates on
 -- different slots commute because they change different places. So fusing and compressing keep what the events do to the bits. Assumes nothing.
 use mathlib.Core.Path.{◌≡◌, refl, sym, ap, ap₂, ◌∙◌, subst}
-use mathlib.Core.Logic.{◌⊎◌, inl, inr, ◌≢◌, Ne-symm}
+use mathlib.Core.Logic.{◌⊎◌, inl, inr, ◌≢◌, Ne-symm, ⊎_elim}
 use mathlib.Core.Bool.{Bool, true, false, not, cond, ◌&&◌}
 use mathlib.Core.List.{List, [], ◌∷◌}
 use Prim.Native.Nat.{ℕ}
 use lib.Dec.{eqb}
 use Rattle.laws.specs.Tables.{update}
 use Rattle.laws.specs.Lists.{All}
-use Rattle.laws.proofs.Cases.{eq-or-ne}
+use Rattle.std.proofs.lemmas.Bool.{cases_eq}
 use Rattle.laws.proofs.Tables.{update_here, update-away, two-first, two-second, two-away, by_two}
 use Rattle.gate.specs.Matrix.{id2, mul2_of, mul4_of, kron_of, mat4_swap_qubits_of}
 use Rattle.gate.specs.declared.matrix.Mat2.{Mat2}
@@ -41,11 +41,7 @@ commute v w x y f n = λ i z. by_two w v y x f (Ne-symm n) (update v x (update w
     others z p q = two-away v w x y f n z q p
 
 pub update_same : {A : Type 0} (w : ℕ) (f : ℕ → A) (x : ℕ) → update w (f w) f x ≡ f x
-update_same w f x = by (eq-or-ne x w)
-  where
-    by : (x ≡ w) ⊎ (x ≢ w) → update w (f w) f x ≡ f x
-    by (inl e) = ap (update w (f w) f) e ∙ update_here w (f w) f ∙ ap f (sym e)
-    by (inr e) = update-away w (f w) f x e
+update_same w f x = ⊎_elim (λ e. ap (update w (f w) f) e ∙ update_here w (f w) f ∙ ap f (sym e)) (λ e. update-away w (f w) f x e) (cases_eq x w)
 
 update_twice : {A : Type 0} (w : ℕ) (a b : A) (f : ℕ → A) (x : ℕ) → update w a (update w b f) x ≡ update w a f x
 update_twice {A} w a b f x = by (eqb x w)

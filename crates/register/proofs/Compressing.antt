@@ -1,7 +1,7 @@
 -- Compressing keeps the run of a list of events, in any monoid: what is not on a slot commutes with a gate on it, so the newer of two gates may move
 -- next to the older. Assumes nothing.
 use mathlib.Core.Path.{◌≡◌, refl, sym, ap, ◌∙◌}
-use mathlib.Core.Bool.{Bool, true, false, cond, ◌&&◌, ◌||◌}
+use mathlib.Core.Bool.{Bool, true, false, cond, ◌&&◌, ◌||◌, or-false}
 use mathlib.Core.List.{List, [], ◌∷◌, ◌++◌}
 use Prim.Native.Nat.{ℕ}
 use lib.Dec.{eqb}
@@ -14,20 +14,17 @@ use Rattle.gate.specs.declared.matrix.Mat2.{Mat2}
 use Rattle.fuse.specs.Events.{Event, gone, one, two, three, touches}
 use Rattle.fuse.specs.Compress.{diagonal2_of, press, compress_step, compressed}
 use Rattle.register.specs.Runs.{Monoid, Acts, ev, run, Ok, Keeps}
-use Rattle.register.proofs.Fusing.{none_of, fails, Off, first-away, passes, run-append}
-
-or-false : (t : Bool) → (t || false) ≡ true → t ≡ true
-or-false true h = refl
-or-false false h = h
+use Rattle.std.proofs.lemmas.Bool.{or_parts}
+use Rattle.register.proofs.Fusing.{fails, Off, first-away, passes, run-append}
 
 module _ (G : Monoid) (A : Acts G) where
   off : (w : ℕ) (e : Event) → touches w e ≡ false → Ok G A e → Off w w e
   off w gone h o = tt
   off w (one v m) h o =
-      let n = fails v w (none_of (eqb v w) false h).0 in
+      let n = fails v w (or_parts (eqb v w) false h).0 in
       (n, n)
   off w (two a b u) h o =
-      let n = none_of (eqb a w) (eqb b w) h in
+      let n = or_parts (eqb a w) (eqb b w) h in
       let p = fails a w n.0 in
       let q = fails b w n.1 in
       (p, q, p, q)
@@ -64,7 +61,7 @@ module _ (G : Monoid) (A : Acts G) where
     pressed (one v j ∷ old) e o t = by (diagonal2_of j && diagonal2_of m)
       where
         v-is : v ≡ w
-        v-is = eqb-true v w (or-false (eqb v w) t)
+        v-is = eqb-true v w (sym (or-false (eqb v w)) ∙ t)
 
         by : (d : Bool) → Keeps G A (one w m ∷ all) (cond d (gone ∷ (new ++ (one v (mul2_of m j) ∷ old))) (one w m ∷ all))
         by false = stays

@@ -7,6 +7,7 @@ use mathlib.Core.List.{List, [], ◌∷◌, ◌++◌, map}
 use Prim.Native.Nat.{ℕ}
 use lib.Dec.{eqb}
 use borrow.Author.Tests.{eqb-true, eqb-false}
+use Rattle.std.proofs.lemmas.Bool.{or_parts}
 use Rattle.laws.specs.Views.{until, from}
 use Rattle.laws.specs.Lists.{All}
 use Rattle.laws.proofs.Lists.{all_map, all_append, whole, until-all, from_all, until-fails}
@@ -16,11 +17,6 @@ use Rattle.gate.specs.declared.matrix.Mat4.{Mat4}
 use Rattle.fuse.specs.Events.{Event, gone, one, two, three, one_on, meets, product, clear}
 use Rattle.fuse.specs.Fuse.{grown, joined, place, fuse_step, fused}
 use Rattle.register.specs.Runs.{Monoid, Acts, ev, run, Ok, Keeps}
-
--- no test of several passes
-pub none_of : (p q : Bool) → (p || q) ≡ false → (p ≡ false) × (q ≡ false)
-none_of false q e = (refl, e)
-none_of true q e = absurd (subst (λ (t : Bool). cond t (Unit {0}) ⊥) e tt)
 
 -- ---- events and slots
 
@@ -46,9 +42,9 @@ free c d gone h = tt
 free c d (one v m) h = tt
 free c d (three x y z) h = tt
 free c d (two a b u) h =
-    let t = none_of (eqb a c || eqb b c) (eqb a d || eqb b d) h in
-    let p = none_of (eqb a c) (eqb b c) t.0 in
-    let q = none_of (eqb a d) (eqb b d) t.1 in
+    let t = or_parts (eqb a c || eqb b c) (eqb a d || eqb b d) h in
+    let p = or_parts (eqb a c) (eqb b c) t.0 in
+    let q = or_parts (eqb a d) (eqb b d) t.1 in
     (fails a c p.0, fails b c p.1, fails a d q.0, fails b d q.1)
 
 free-turned : (c d : ℕ) (e : Event) → Free c d e → Free d c e

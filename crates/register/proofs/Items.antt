@@ -9,6 +9,7 @@ use native.Mathlib.Nat.{le_refl}
 use lib.ListN.{get_or, take}
 use lib.Seq.{take-nil}
 use lib.Ieee.{Float}
+use Rattle.resolve.proofs.Tails.{ahead_none}
 use Rattle.laws.specs.Views.{list_of, until}
 use Rattle.laws.specs.Lists.{All}
 use Rattle.laws.proofs.Views.{length-list_of, get_or-list_of}
@@ -80,10 +81,6 @@ module _ (relabel : Bool) (tol : Float) (R : Rules relabel tol) (n : ℕ) (P : �
             ∙ sym (ap (λ k. turned_all (take k (ahead w es)) false) (split_at w h));
       }
 
-  ahead-end : (w : ℕ) → ahead w [] ≡ []
-  unfolding ahead ones until
-  ahead-end w = refl
-
   -- ---- resolving as a whole
 
   -- what fusing makes of the events es
@@ -107,7 +104,7 @@ module _ (relabel : Bool) (tol : Float) (R : Rules relabel tol) (n : ℕ) (P : �
         bits = λ w l.
             sym (all-rests relabel tol R n P [] (forward (reverse fs) zeros) r t w l
             ∙ t.bits w l
-            ∙ ap (λ s. turned_all (take (get_or r.splits w 0) s) (forward (reverse fs) zeros w)) (ahead-end w)
+            ∙ ap (λ s. turned_all (take (get_or r.splits w 0) s) (forward (reverse fs) zeros w)) (ahead_none w)
             ∙ ap (λ s. turned_all s (forward (reverse fs) zeros w)) (take-nil (get_or r.splits w 0))
             ∙ ap (λ (b : ℕ → Bool). b w) (forward-reverse fs [] zeros)
             ∙ ap (λ (g : (ℕ → Bool) → ℕ → Bool). g zeros w) k.1);

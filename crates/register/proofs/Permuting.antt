@@ -8,14 +8,14 @@ use lib.ListN.{get_or}
 use Rattle.laws.specs.Slices.{traded}
 use Rattle.laws.specs.Tables.{exchanged}
 use Rattle.laws.specs.Views.{list_of}
-use Rattle.laws.proofs.Cases.{eq-or-ne}
+use Rattle.std.proofs.lemmas.Bool.{cases_eq}
 use Rattle.laws.proofs.Tables.{exchanged-twice, exchanged-below, length-traded, get_or-traded}
 use Rattle.laws.proofs.Views.{length-list_of, get_or-list_of}
 use Rattle.register.specs.Blocks.{Places}
 
 -- a property of the numbers below n: of two of them, and of the others
 pub by_three : (P : ℕ → Type 0) (n a b : ℕ) → P a → P b → ((w : ℕ) → w < n → w ≢ a → w ≢ b → P w) → (w : ℕ) → w < n → P w
-by_three P n a b pa pb po w h = by (eq-or-ne w a) (eq-or-ne w b)
+by_three P n a b pa pb po w h = by (cases_eq w a) (cases_eq w b)
   where
     by : (w ≡ a) ⊎ (w ≢ a) → (w ≡ b) ⊎ (w ≢ b) → P w
     by (inl e) _ = subst P (sym e) pa

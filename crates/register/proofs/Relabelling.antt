@@ -9,7 +9,7 @@ use lib.Dec.{eqb}
 use borrow.Author.Tests.{eqb-true}
 use Rattle.laws.specs.Tables.{update, exchanged, exchange}
 use Rattle.laws.specs.Lists.{All}
-use Rattle.laws.proofs.Cases.{eq-or-ne}
+use Rattle.std.proofs.lemmas.Bool.{cases_eq}
 use Rattle.laws.proofs.Tables.{update_here, update-away, two-first, two-second, exchanged-below, exchange-first, exchange-second, exchange-away}
 use Rattle.tape.specs.declared.gates.Gate.{Gate}
 use Rattle.tape.specs.declared.gates.Gate.TheVariants.{One, Two, Three}
@@ -51,7 +51,7 @@ module _ (n : ℕ) (Q : Mono4 → Type 0) (C : Closed Q) (P : ℕ → ℕ → Ty
     one-bits : (code q : ℕ) (m : _) → GateIs n Q P Still (One code q m) → (p : ℕ) → p < n
         → register_step (One code q m) R p ≡ events_run (one (slot_of s q) m ∷ s.events) zeros (slot_of s p)
     unfolding events_run E
-    one-bits code q m g p h = turned (turns code) q R p ∙ by (eq-or-ne p q)
+    one-bits code q m g p h = turned (turns code) q R p ∙ by (cases_eq p q)
       where
         B : Bool
         B = flip (turns code) (R q)

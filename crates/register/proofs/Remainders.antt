@@ -10,7 +10,7 @@ use lib.ListN.{get_or}
 use lib.Ieee.{Float}
 use Rattle.laws.specs.Tables.{update}
 use Rattle.laws.specs.Lists.{All}
-use Rattle.laws.proofs.Cases.{eq-or-ne}
+use Rattle.std.proofs.lemmas.Bool.{cases_eq}
 use Rattle.laws.proofs.Tables.{update_here, update-away}
 use Rattle.fuse.specs.Events.{Event}
 use Rattle.resolve.specs.Items.{Item}
@@ -61,7 +61,7 @@ module _ (relabel : Bool) (tol : Float) (R : Rules relabel tol) (n : ℕ) (P : �
   earlier : (k w : ℕ) → k ≤ n → w < k → items_run (with_rests r k) zeros (wire w) ≡ turned_of (opened (remainder w)) (X (wire w))
   unfolding with_rests wire remainder
   earlier zero w l h = absurd (not-suc-le-zero h)
-  earlier (suc k) w l h = by (eq-or-ne w k) (λ g. earlier k w (omega arith) g)
+  earlier (suc k) w l h = by (cases_eq w k) (λ g. earlier k w (omega arith) g)
     where
       Y : ℕ → Bool
       Y = items_run (with_rests r k) zeros

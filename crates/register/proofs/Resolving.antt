@@ -1,7 +1,7 @@
 -- Resolving the splits: whatever cuts are chosen, the items do to the wires what the events do to the slots. The wire in a slot is behind its slot by
 -- the remainder, and ahead of it by the gates that the last block on it has taken before they came. Assumes nothing.
 use mathlib.Core.Path.{◌≡◌, refl, sym, ap, ap₂, ◌∙◌, subst}
-use mathlib.Core.Logic.{◌⊎◌, inl, inr, ◌≢◌, Ne-symm}
+use mathlib.Core.Logic.{◌⊎◌, inl, inr, ◌≢◌, Ne-symm, ⊎_elim}
 use mathlib.Core.Bool.{Bool, true, false, cond}
 use mathlib.Core.List.{List, [], ◌∷◌}
 use Prim.Native.Nat.{ℕ, suc, ◌-◌, ◌<◌}
@@ -13,7 +13,7 @@ use lib.Ieee.{Float}
 use borrow.Author.Tests.{eqb-true, eqb-false}
 use Rattle.laws.specs.Slices.{traded}
 use Rattle.laws.specs.Lists.{All}
-use Rattle.laws.proofs.Cases.{eq-or-ne}
+use Rattle.std.proofs.lemmas.Bool.{cases_eq}
 use Rattle.laws.proofs.Tables.{update_here, update-away, two-first, two-second, exchanged-first, exchanged-second, exchanged-away}
 use Rattle.gate.specs.Matrix.{mul4_of, kron_of}
 use Rattle.gate.specs.declared.matrix.Mat2.{Mat2}
@@ -35,11 +35,7 @@ use Rattle.register.proofs.Tails.{turned_all, prefix-turn, prefix-turned, ahead-
 
 -- a property of the numbers below n: of one of them, and of the others
 by_one : (P : ℕ → Type 0) (n v : ℕ) → P v → ((w : ℕ) → w < n → w ≢ v → P w) → (w : ℕ) → w < n → P w
-by_one P n v pv po w h = by (eq-or-ne w v)
-  where
-    by : (w ≡ v) ⊎ (w ≢ v) → P w
-    by (inl e) = subst P (sym e) pv
-    by (inr e) = po w h e
+by_one P n v pv po w h = ⊎_elim (λ e. subst P (sym e) pv) (λ e. po w h e) (cases_eq w v)
 
 -- the events the oldest first
 abbrev pub forward : List Event → (ℕ → Bool) → ℕ → Bool

@@ -1,7 +1,7 @@
 -- The same of accepted tapes: their gates are good and their tolerance is one from 0 to 0.001. Assumes nothing.
 use mathlib.Core.Path.{◌≡◌, refl, sym, ap, subst}
-use mathlib.Core.Logic.{◌⊎◌, inl, inr}
-use mathlib.Core.Bool.{Bool, true, false, not, cond, ◌||◌}
+use mathlib.Core.Logic.{◌⊎◌, inl, inr, ⊎_elim}
+use mathlib.Core.Bool.{Bool, true, false, not, cond, ◌||◌, true≢false}
 use mathlib.Core.List.{List, Memᴰ}
 use Prim.Native.Nat.{ℕ, ◌+◌, ◌≤◌, ◌<◌}
 use native.Mathlib.Omega.{arith}
@@ -12,7 +12,7 @@ use lib.Ieee.Bits.{is_true, of_bits-fits}
 use lib.Ieee.Fits.{and_l, and_r}
 use borrow.Author.Tests.{ltb-false, lt-ltb, le-ltb, eq-eqb, not-true}
 use Rattle.laws.specs.Bounds.{max_tolerance}
-use Rattle.laws.proofs.Cases.{lt-or-le}
+use Rattle.std.proofs.lemmas.Bool.{cases_lt}
 use Rattle.num.specs.Bits.{le64, f64_at}
 use Rattle.gate.specs.Complex.{f0}
 use Rattle.tape.specs.Bounds.{header_length}
@@ -36,12 +36,12 @@ use Rattle.register.proofs.Items.{items-follow, items-plain}
 -- ---- of two numbers one is at most the other
 
 not-below : (s t : Bool) (a b : ℕ) → below s a t b ≡ false → T (below t b s a || level t b s a)
-not-below false false a b h = by (lt-or-le b a)
+not-below false false a b h = by (cases_lt b a)
   where
     by : (b < a) ⊎ (a ≤ b) → T (below false b false a || level false b false a)
     by (inl l) = rw (lt-ltb b a l) tt
     by (inr l) = rw (le-ltb b a l, eq-eqb b a (omega (arith, ltb-false a b h))) tt
-not-below false true a b h = by (lt-or-le 0 (b + a))
+not-below false true a b h = by (cases_lt 0 (b + a))
   where
     by : (0 < b + a) ⊎ (b + a ≤ 0) → T (below true b false a || level true b false a)
     by (inl l) = rw (lt-ltb 0 (b + a) l) tt
@@ -49,28 +49,21 @@ not-below false true a b h = by (lt-or-le 0 (b + a))
 not-below true false a b h =
     let l : a + b ≤ 0 = ltb-false 0 (a + b) h in
     rw (eq-eqb b a (omega arith), eq-eqb b 0 (omega arith)) tt
-not-below true true a b h = by (lt-or-le a b)
-  where
-    by : (a < b) ⊎ (b ≤ a) → T (below true b true a || level true b true a)
-    by (inl l) = rw (lt-ltb a b l) tt
-    by (inr l) = rw (le-ltb a b l, eq-eqb b a (omega (arith, ltb-false b a h))) tt
-
-clash : {A : Type 0} → true ≡ false → A
-clash e = absurd (subst (λ (t : Bool). cond t (Unit {0}) ⊥) e tt)
+not-below true true a b h = ⊎_elim (λ l. rw (lt-ltb a b l) tt) (λ l. rw (le-ltb a b l, eq-eqb b a (omega (arith, ltb-false b a h))) tt) (cases_lt a b)
 
 -- of numbers: no NaN
 at_least : (x y : Float) → is_nan x ≡ false → is_nan y ≡ false → lt x y ≡ false → T (le y x)
 unfolding lt le eq is_nan
-at_least nan y p q h = clash p
-at_least (inf s) nan p q h = clash q
+at_least nan y p q h = absurd (true≢false p)
+at_least (inf s) nan p q h = absurd (true≢false q)
 at_least (inf false) (inf false) p q h = tt
 at_least (inf false) (inf true) p q h = tt
-at_least (inf true) (inf false) p q h = clash h
+at_least (inf true) (inf false) p q h = absurd (true≢false h)
 at_least (inf true) (inf true) p q h = tt
 at_least (inf false) (fin t n d) p q h = tt
-at_least (inf true) (fin t n d) p q h = clash h
-at_least (fin s m e) nan p q h = clash q
-at_least (fin s m e) (inf false) p q h = clash h
+at_least (inf true) (fin t n d) p q h = absurd (true≢false h)
+at_least (fin s m e) nan p q h = absurd (true≢false q)
+at_least (fin s m e) (inf false) p q h = absurd (true≢false h)
 at_least (fin s m e) (inf true) p q h = tt
 at_least (fin s m e) (fin t n d) p q h = not-below s t _ _ h
 

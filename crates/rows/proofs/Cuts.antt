@@ -91,31 +91,22 @@ renamed_items = record {
   angled = true;
 }
 
--- ---- each is computed whole
+-- ---- the three are computed whole
+
+computed : (items_of (header 0) better_gates ≡ better_items) × (items_of (header 0) split_gates ≡ split_items) × (items_of (header 1) renamed_gates ≡ renamed_items)
+unfolding largest_root_of majorana0 majorana1 majorana2 majorana3 image4_of trace_row4_of trace4_of coefficient4_of coefficients4_of less_row4_of less4_of rest4_of
+    plus_row4_of square4_of distance4_of map_row4_of map_distance4_of majorana_map2_of dot2_of mul2_of time_step_of time_product_from time_product_of kron_row_of kron_of axpy_of
+    row_mul_of mul4_of conj_column_of dag4_of is_zero_of max_of min_of abs_of sqrt_of add sub mul div neg lt le eq of_bits is_nan plus_three_of off_square_of offdiag4_of
+    interaction_of phase_none_of diagonal_of without_phase_of residual2_of swap4_of plain_of fallback_of swapped_of classify2_of up_from until from product labelled
+    unlabelled labels_of items_of fused diagonal2_of compressed ones ahead keep cuts prefix_of level_of candidate_of better_of offer_of offers_of all_offers try_each
+    choose_of candidates chosen resolved with_rests start_of resolved_of fuse_of
+computed = (refl, refl, refl)
 
 pub better : items_of (header 0) better_gates ≡ better_items
-unfolding largest_root_of majorana0 majorana1 majorana2 majorana3 image4_of trace_row4_of trace4_of coefficient4_of coefficients4_of less_row4_of less4_of rest4_of
-    plus_row4_of square4_of distance4_of map_row4_of map_distance4_of majorana_map2_of dot2_of mul2_of time_step_of time_product_from time_product_of kron_row_of kron_of axpy_of
-    row_mul_of mul4_of conj_column_of dag4_of is_zero_of max_of min_of abs_of sqrt_of add sub mul div neg lt le eq of_bits is_nan plus_three_of off_square_of offdiag4_of
-    interaction_of phase_none_of diagonal_of without_phase_of residual2_of swap4_of plain_of fallback_of swapped_of classify2_of up_from until from product labelled
-    unlabelled labels_of items_of fused diagonal2_of compressed ones ahead keep cuts prefix_of level_of candidate_of better_of offer_of offers_of all_offers try_each
-    choose_of candidates chosen resolved with_rests start_of resolved_of fuse_of
-better = refl
+better = computed.0
 
 pub split : items_of (header 0) split_gates ≡ split_items
-unfolding largest_root_of majorana0 majorana1 majorana2 majorana3 image4_of trace_row4_of trace4_of coefficient4_of coefficients4_of less_row4_of less4_of rest4_of
-    plus_row4_of square4_of distance4_of map_row4_of map_distance4_of majorana_map2_of dot2_of mul2_of time_step_of time_product_from time_product_of kron_row_of kron_of axpy_of
-    row_mul_of mul4_of conj_column_of dag4_of is_zero_of max_of min_of abs_of sqrt_of add sub mul div neg lt le eq of_bits is_nan plus_three_of off_square_of offdiag4_of
-    interaction_of phase_none_of diagonal_of without_phase_of residual2_of swap4_of plain_of fallback_of swapped_of classify2_of up_from until from product labelled
-    unlabelled labels_of items_of fused diagonal2_of compressed ones ahead keep cuts prefix_of level_of candidate_of better_of offer_of offers_of all_offers try_each
-    choose_of candidates chosen resolved with_rests start_of resolved_of fuse_of
-split = refl
+split = computed.1
 
 pub renamed : items_of (header 1) renamed_gates ≡ renamed_items
-unfolding largest_root_of majorana0 majorana1 majorana2 majorana3 image4_of trace_row4_of trace4_of coefficient4_of coefficients4_of less_row4_of less4_of rest4_of
-    plus_row4_of square4_of distance4_of map_row4_of map_distance4_of majorana_map2_of dot2_of mul2_of time_step_of time_product_from time_product_of kron_row_of kron_of axpy_of
-    row_mul_of mul4_of conj_column_of dag4_of is_zero_of max_of min_of abs_of sqrt_of add sub mul div neg lt le eq of_bits is_nan plus_three_of off_square_of offdiag4_of
-    interaction_of phase_none_of diagonal_of without_phase_of residual2_of swap4_of plain_of fallback_of swapped_of classify2_of up_from until from product labelled
-    unlabelled labels_of items_of fused diagonal2_of compressed ones ahead keep cuts prefix_of level_of candidate_of better_of offer_of offers_of all_offers try_each
-    choose_of candidates chosen resolved with_rests start_of resolved_of fuse_of
-renamed = refl
+renamed = computed.2

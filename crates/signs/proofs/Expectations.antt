@@ -7,7 +7,7 @@ use Prim.Native.Nat.{ℕ, zero, suc, ◌≤◌, ◌<◌}
 use native.Mathlib.Nat.{le_refl}
 use native.Mathlib.Omega.{arith}
 use Rattle.laws.specs.Phase.{Phase, i0, i3, ◌⊕◌}
-use Rattle.laws.proofs.Cases.{eq-or-ne}
+use Rattle.std.proofs.lemmas.Bool.{cases_eq}
 use Rattle.laws.proofs.Phases.{comm, right-none}
 use Rattle.signs.specs.Paulis.{sgn, Pauli, pr, ph, Str, times, signed, phases, mul, nought, turn, real, flips, still}
 use Rattle.signs.specs.Paulis.{expectation}
@@ -28,7 +28,7 @@ module _ (f g : ℕ → Pauli) where
   pub phases-single : (n j : ℕ) → j < n → ((w : ℕ) → w < n → w ≢ j → ph (f w) (g w) ≡ i0) → phases n f g ≡ ph (f j) (g j)
   unfolding phases
   phases-single zero j l h = absurd (omega arith)
-  phases-single (suc n) j l h = by (eq-or-ne n j) (λ l'. phases-single n j l' (λ w b d. h w (omega arith) d))
+  phases-single (suc n) j l h = by (cases_eq n j) (λ l'. phases-single n j l' (λ w b d. h w (omega arith) d))
     where
       by : (n ≡ j) ⊎ (n ≢ j) → (j < n → phases n f g ≡ ph (f j) (g j)) → phases n f g ⊕ ph (f n) (g n) ≡ ph (f j) (g j)
       by (inl e) ih = λ i. phases-none n (λ w b. h w (omega arith) (λ d. omega arith)) i ⊕ ph (f (e i)) (g (e i))
@@ -43,7 +43,7 @@ module _ (f : ℕ → Pauli) where
   pub still-no : (n j : ℕ) → j < n → flips (f j) ≡ true → still n f ≡ false
   unfolding still
   still-no zero j l h = absurd (omega arith)
-  still-no (suc n) j l h = by (eq-or-ne n j) (λ l'. still-no n j l' h)
+  still-no (suc n) j l h = by (cases_eq n j) (λ l'. still-no n j l' h)
     where
       by : (n ≡ j) ⊎ (n ≢ j) → (j < n → still n f ≡ false) → (still n f && not (flips (f n))) ≡ false
       by (inl e) ih = ap (λ b. still n f && not b) (ap (λ w. flips (f w)) e ∙ h) ∙ and-false (still n f)

@@ -2,7 +2,7 @@
 -- and sends every later one to itself with the sign of the permutation (`later`). So the sign turn of the later modes is derived here, from
 -- blocks that touch their own modes only. Assumes nothing.
 use mathlib.Core.Path.{◌≡◌, refl, sym, ap, ◌∙◌}
-use mathlib.Core.Logic.{◌⊎◌, inl, inr, ◌≢◌}
+use mathlib.Core.Logic.{◌⊎◌, inl, inr, ◌≢◌, ⊎_elim}
 use mathlib.Core.Bool.{Bool, true, false, cond}
 use Prim.Native.Nat.{ℕ, ◌+◌, ◌*◌, ◌/◌, ◌%◌, ◌≤◌, ◌<◌}
 use native.Mathlib.Nat.{le_refl}
@@ -11,7 +11,7 @@ use lib.Dec.{eqb, ltb}
 use borrow.Author.Tests.{eq-eqb, ne_eqb, lt-ltb, le-ltb}
 use Rattle.laws.specs.Tables.{update}
 use Rattle.laws.specs.Phase.{i0, ◌⊕◌}
-use Rattle.laws.proofs.Cases.{eq-or-ne, lt-or-le}
+use Rattle.std.proofs.lemmas.Bool.{cases_lt, cases_eq}
 use Rattle.laws.proofs.Tables.{update_here, two-first, two-second, by_two}
 use Rattle.laws.proofs.Phases.{comm}
 use Rattle.signs.specs.Paulis.{sgn, Pauli, p_i, p_x, p_y, p_z, Str, signed, identity}
@@ -37,11 +37,7 @@ near : (k : ℕ) → k ≢ k + 1
 near k e = omega arith
 
 put_back : (f : ℕ → Pauli) (k : ℕ) (p : Pauli) → f k ≡ p → (w : ℕ) → update k p f w ≡ f w
-put_back f k p h w = by (eq-or-ne w k)
-  where
-    by : (w ≡ k) ⊎ (w ≢ k) → update k p f w ≡ f w
-    by (inl e) = rw (eq-eqb w k e) (sym (ap f e ∙ h))
-    by (inr d) = rw (ne_eqb w k d)
+put_back f k p h w = ⊎_elim (λ e. rw (eq-eqb w k e) (sym (ap f e ∙ h))) (λ d. rw (ne_eqb w k d)) (cases_eq w k)
 
 stays₁ : (g : Block₁) (k : ℕ) (s : Str) (b : Bool) (p : Pauli) → s.at k ≡ p → g.to p ≡ record { phase = sgn b; at = p } → on₁ g k s ≡ signed b s
 stays₁ g k s b p h e =
@@ -142,7 +138,7 @@ on-placed g k c =
 
 -- the Majorana operators are such strings
 major-placed₁ : (k : ℕ) (c : Bool) → major k c ≡ placed₁ k (maj₁ c)
-major-placed₁ k c = λ i. record { phase = i0; at = λ w. by w (eq-or-ne w k) i }
+major-placed₁ k c = λ i. record { phase = i0; at = λ w. by w (cases_eq w k) i }
   where
     by : (w : ℕ) → (w ≡ k) ⊎ (w ≢ k) → (major k c).at w ≡ update k (xy c) (around k) w
     by w (inl e) = here k c w e ∙ rw (eq-eqb w k e)
@@ -153,11 +149,7 @@ major-placed : (k j : ℕ) (y : Bool) (p q : Pauli) → k ≤ j → j ≤ k + 1 
 major-placed k j y p q l l' h h' = λ i. record { phase = i0; at = λ w. by_two k (k + 1) p q (around k) (near k) (major j y).at h h' rest w i }
   where
     rest : (w : ℕ) → w ≢ k → w ≢ k + 1 → (major j y).at w ≡ around k w
-    rest w d d' = by (lt-or-le w k)
-      where
-        by : (w < k) ⊎ (k ≤ w) → (major j y).at w ≡ around k w
-        by (inl b) = before j y w (omega arith) ∙ rw (lt-ltb w k b)
-        by (inr b) = beyond j y w (omega arith) ∙ rw (le-ltb w k b)
+    rest w d d' = ⊎_elim (λ b. before j y w (omega arith) ∙ rw (lt-ltb w k b)) (λ b. beyond j y w (omega arith) ∙ rw (le-ltb w k b)) (cases_lt w k)
 
 pub gamma-at : (a k : ℕ) (y : Bool) → a ≡ 2 * k + num₁ y → gamma a ≡ major k y
 gamma-at a k false e = λ i. major (half i) (eqb (rest i) 1)

@@ -10,7 +10,7 @@ use lib.Ieee.{neg}
 use borrow.Author.Tests.{eq-eqb, ne_eqb}
 use Rattle.laws.specs.Zeros.{+0, nz}
 use Rattle.laws.specs.Phase.{Phase, i0, i2, i3, ◌⊕◌}
-use Rattle.laws.proofs.Cases.{lt-or-le, eq-or-ne}
+use Rattle.std.proofs.lemmas.Bool.{cases_lt, cases_eq}
 use Rattle.laws.proofs.Phases.{comm, cancel, right-none, eq_phase}
 use Rattle.local.specs.State.{vacuum}
 use Rattle.signs.specs.Paulis.{sgn, Pauli, pr, ph, Str, signed, phases, mul, Value, nought, plus, minus, turn, float}
@@ -53,7 +53,7 @@ gamma-turns n a l =
     }
   where
     other : (w : ℕ) → w ≢ a / 2 → flips ((gamma a).at w) ≡ false
-    other w d = by (lt-or-le w (a / 2))
+    other w d = by (cases_lt w (a / 2))
       where
         by : (w < a / 2) ⊎ (a / 2 ≤ w) → flips ((gamma a).at w) ≡ false
         by (inl b) = ap flips (before (a / 2) (eqb (a % 2) 1) w b)
@@ -124,7 +124,7 @@ module _ (n : ℕ) (x y : Str) (h : Turns n x) (k : Turns n y) where
     pub pairing-same : pairing n x y ≡ turn h.minus (turn k.minus (both h.kind k.kind))
     unfolding xor
     pairing-same =
-        expectation-still n (paired n x y) (still-yes (λ w. pr (x.at w) (y.at w)) n (λ w l. by w (eq-or-ne w h.mode)))
+        expectation-still n (paired n x y) (still-yes (λ w. pr (x.at w) (y.at w)) n (λ w l. by w (cases_eq w h.mode)))
         ∙ (λ i. real (i3 ⊕ (h.sign i ⊕ k.sign i ⊕ same-phases i)))
         ∙ real-both h.minus k.minus h.kind k.kind
       where
@@ -138,7 +138,7 @@ module _ (n : ℕ) (x y : Str) (h : Turns n x) (k : Turns n y) where
 
 pub vacuum-is : (n r c : ℕ) → r < 2 * n → c < 2 * n → nz (vacuum.m r c) ≡ float (pairing n (gamma r) (gamma c))
 unfolding neg gamma-turns
-vacuum-is n r c hr hc = by (eq-or-ne (r / 2) (c / 2))
+vacuum-is n r c hr hc = by (cases_eq (r / 2) (c / 2))
   where
     h : Turns n (gamma r)
     h = gamma-turns n r hr
@@ -173,8 +173,8 @@ vacuum-is n r c hr hc = by (eq-or-ne (r / 2) (c / 2))
     apart d (inr p) (inr q) = rw (ne_eqb (r % 2) 0 p, ne_eqb (c % 2) 0 q)
 
     by : (r / 2 ≡ c / 2) ⊎ (r / 2 ≢ c / 2) → nz (vacuum.m r c) ≡ float (pairing n (gamma r) (gamma c))
-    by (inl e) = same e (eq-or-ne (r % 2) 1) (eq-or-ne (c % 2) 1) ∙ sym (ap float (pairing-same n (gamma r) (gamma c) h k e))
-    by (inr d) = apart d (eq-or-ne (r % 2) 0) (eq-or-ne (c % 2) 0) ∙ sym (ap float (pairing-apart n (gamma r) (gamma c) h k d))
+    by (inl e) = same e (cases_eq (r % 2) 1) (cases_eq (c % 2) 1) ∙ sym (ap float (pairing-same n (gamma r) (gamma c) h k e))
+    by (inr d) = apart d (cases_eq (r % 2) 0) (cases_eq (c % 2) 0) ∙ sym (ap float (pairing-apart n (gamma r) (gamma c) h k d))
 
 -- ---- operators that anticommute
 
@@ -204,7 +204,7 @@ kinds-differ n x y h k a e d =
 
 -- a value is there for two of one mode and of different kinds only
 pub paired-mode : (n : ℕ) (x y : Str) (h : Turns n x) (k : Turns n y) → pairing n x y ≢ nought → (h.mode ≡ k.mode) × (h.kind ≢ k.kind)
-paired-mode n x y h k d = by (eq-or-ne h.mode k.mode)
+paired-mode n x y h k d = by (cases_eq h.mode k.mode)
   where
     none : (a b j : Bool) → turn a (turn b (both j j)) ≡ nought
     none false false false = refl

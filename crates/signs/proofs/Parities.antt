@@ -10,7 +10,7 @@ use lib.Dec.{eqb}
 use lib.ListN.{get_or, length}
 use borrow.Author.Tests.{eq-eqb, ne_eqb}
 use Rattle.laws.specs.Phase.{i0, i1, i2, i3, ◌⊕◌}
-use Rattle.laws.proofs.Cases.{lt-or-le, eq-or-ne}
+use Rattle.std.proofs.lemmas.Bool.{cases_lt, cases_eq, cond_both}
 use Rattle.queries.specs.Products.{index_of}
 use Rattle.signs.specs.Paulis.{Pauli, p_i, p_x, p_y, p_z, pr, ph, Str, times, signed, phases, mul, identity, flips}
 use Rattle.signs.specs.Majoranas.{xy, major, gamma, paired, listed, zs}
@@ -45,7 +45,7 @@ right-p_i p_z = refl
 -- of two modes
 anti-modes : (n j k : ℕ) (y z : Bool) → j < k → k < n → Anti n (major j y) (major k z)
 anti-modes n j k y z l m =
-    anti-at n (major j y).at (major k z).at j (xy y) p_z (omega arith) (here j y j refl) (before k z j l) (own y) (λ w d. by w d (lt-or-le w j))
+    anti-at n (major j y).at (major k z).at j (xy y) p_z (omega arith) (here j y j refl) (before k z j l) (own y) (λ w d. by w d (cases_lt w j))
   where
     own : (y : Bool) → ph (xy y) p_z ≡ i2 ⊕ ph p_z (xy y)
     own false = refl
@@ -60,7 +60,7 @@ anti-modes n j k y z l m =
 -- of one mode
 anti-kinds : (n j : ℕ) → j < n → Anti n (major j false) (major j true)
 anti-kinds n j l =
-    anti-at n (major j false).at (major j true).at j p_x p_y l (here j false j refl) (here j true j refl) refl (λ w d. by w d (lt-or-le w j))
+    anti-at n (major j false).at (major j true).at j p_x p_y l (here j false j refl) (here j true j refl) refl (λ w d. by w d (cases_lt w j))
   where
     by : (w : ℕ) → w ≢ j → (w < j) ⊎ (j ≤ w)
         → (ph ((major j false).at w) ((major j true).at w) ≡ i0) × (ph ((major j true).at w) ((major j false).at w) ≡ i0)
@@ -71,7 +71,7 @@ anti-kinds n j l =
     )
 
 pub gamma-anti : (n a b : ℕ) → a < 2 * n → b < 2 * n → a ≢ b → Anti n (gamma a) (gamma b)
-gamma-anti n a b la lb d = by (lt-or-le (a / 2) (b / 2)) (lt-or-le (b / 2) (a / 2))
+gamma-anti n a b la lb d = by (cases_lt (a / 2) (b / 2)) (cases_lt (b / 2) (a / 2))
   where
     to : {x y : Str} → gamma a ≡ x → gamma b ≡ y → Anti n x y → Anti n (gamma a) (gamma b)
     to p q h = (λ i. mul n (p i) (q i)) ∙ h ∙ (λ i. signed true (mul n (sym q i) (sym p i)))
@@ -85,7 +85,7 @@ gamma-anti n a b la lb d = by (lt-or-le (a / 2) (b / 2)) (lt-or-le (b / 2) (a / 
     by : (a / 2 < b / 2) ⊎ (b / 2 ≤ a / 2) → (b / 2 < a / 2) ⊎ (a / 2 ≤ b / 2) → Anti n (gamma a) (gamma b)
     by (inl l) _ = anti-modes n (a / 2) (b / 2) (eqb (a % 2) 1) (eqb (b % 2) 1) l (omega arith)
     by (inr _) (inl l) = anti-sym n (gamma b) (gamma a) (anti-modes n (b / 2) (a / 2) (eqb (b % 2) 1) (eqb (a % 2) 1) l (omega arith))
-    by (inr l) (inr m) = kinds (omega arith) (eq-or-ne (a % 2) 1)
+    by (inr l) (inr m) = kinds (omega arith) (cases_eq (a % 2) 1)
 
 -- ---- products of Z
 
@@ -94,11 +94,11 @@ pub z-paired : (n j : ℕ) → j < n → paired n (gamma (2 * j)) (gamma (2 * j 
 unfolding xor
 z-paired n j l =
     (λ i. paired n (gamma-at (2 * j) j false (omega arith) i) (gamma-at (2 * j + 1) j true refl i))
-    ∙ (λ i. record { phase = i3 ⊕ phase i; at = λ w. at w (lt-or-le w j) (eq-or-ne w j) i })
+    ∙ (λ i. record { phase = i3 ⊕ phase i; at = λ w. at w (cases_lt w j) (cases_eq w j) i })
   where
     phase : phases n (major j false).at (major j true).at ≡ i1
     phase =
-        phases-single (major j false).at (major j true).at n j l (λ w m d. off w d (lt-or-le w j))
+        phases-single (major j false).at (major j true).at n j l (λ w m d. off w d (cases_lt w j))
         ∙ (λ i. ph (here j false j refl i) (here j true j refl i))
       where
         off : (w : ℕ) → w ≢ j → (w < j) ⊎ (j ≤ w) → ph ((major j false).at w) ((major j true).at w) ≡ i0
@@ -111,11 +111,7 @@ z-paired n j l =
     at w (inr b) (inr d) = (λ i. pr (beyond j false w (omega arith) i) (beyond j true w (omega arith) i)) ∙ rw (ne_eqb w j d)
 
 zs-quiet : (js : List ℕ) (w : ℕ) → flips ((zs js).at w) ≡ false
-zs-quiet js w = by (listed js w)
-  where
-    by : (b : Bool) → flips (cond b p_z p_i) ≡ false
-    by true = refl
-    by false = refl
+zs-quiet js w = cond_both (listed js w) _ _ (λ z. flips z ≡ false) (λ _. refl) (λ _. refl)
 
 zs-cons : (n j : ℕ) (js : List ℕ) → mul n (zs (j ∷ [])) (zs js) ≡ zs (j ∷ js)
 unfolding xor

@@ -14,15 +14,15 @@ use Rattle.laws.specs.Zeros.{+0, +1, nz}
 use Rattle.laws.specs.Tables.{exchanged}
 use Rattle.laws.specs.Matrix.{Mat}
 use Rattle.laws.specs.Phase.{i2}
-use Rattle.laws.proofs.Cases.{eq-or-ne}
-use Rattle.laws.proofs.Tables.{exchanged-second, exchanged-away, exchanged-twice, exchanged-below}
+use Rattle.std.proofs.lemmas.Bool.{cases_eq}
+use Rattle.laws.proofs.Tables.{exchanged-second, exchanged-away, exchanged-twice, exchanged-below, exchanged-from}
 use Rattle.laws.proofs.Zeros.{div-cong, lt-cong, eq-cong}
 use Rattle.laws.proofs.Phases.{comm}
 use Rattle.num.specs.Order.{abs_of}
 use Rattle.num.proofs.Alike.{abs-cong}
 use Rattle.pfaffian.specs.Pfaffian.{search, pivot_of, pivoted, less, pf}
 use Rattle.signs.specs.Paulis.{Str, times, signed, mul as mulₛ, identity, Value, nought, plus, minus, turn, float, expectation}
-use Rattle.signs.proofs.Values.{plus≢nought, minus≢nought, float_one, ◌×ᵥ◌, turn-turn, turn-left, turn-right, mul-nought, mul_assoc, mul-value}
+use Rattle.signs.proofs.Values.{plus≢nought, minus≢nought, float_one, ◌×ᵥ◌, turn-turn, turn-left, turn-right, mul-nought, mul_assoc, mul-value, mul-plus}
 use Rattle.signs.proofs.Values.{add-none-left, add-none-right}
 use Rattle.signs.proofs.Values.{sg-value}
 use Rattle.signs.proofs.Strings.{times-right, times-times}
@@ -87,7 +87,7 @@ module _ (row : ℕ → Float) (g : ℕ → Value) (start : ℕ) where
           → Got (suc j) (elim (lt best (abs_of (row j))) as (λ b. Float × ℕ) [ true ↦ (abs_of (row j), j) | false ↦ (best, piv) ])
       by (inl z) =
           rw (lt-cong best (abs_of (row j)) +0 +0 h (abs-none (row j) (g j) e z) ∙ lt-00)
-          (nothing h (λ i a b. at i a b (eq-or-ne i j)))
+          (nothing h (λ i a b. at i a b (cases_eq i j)))
         where
           at : (i : ℕ) → start ≤ i → i < suc j → (i ≡ j) ⊎ (i ≢ j) → g i ≡ nought
           at i a b (inl c) = ap g c ∙ z
@@ -191,15 +191,7 @@ module _ (k dim : ℕ) (b : Mat) (v : ℕ → ℕ → Value) (h : (r c : ℕ) �
       hy : nz y ≡ +0
       hy = mul-value tj (b (suc k) i) nought (v (suc k) i) hj (h (suc k) i (omega arith) (omega arith) (omega arith) mi)
 
--- ---- an exchange keeps the first N apart, and does not lead before k
-
-exchanged-from : (k p q x : ℕ) → k ≤ p → k ≤ q → k ≤ x → k ≤ exchanged p q x
-exchanged-from k p q x a b c = by (eqb x p) (eqb x q)
-  where
-    by : (s t : Bool) → k ≤ cond s q (cond t p x)
-    by true t = b
-    by false true = a
-    by false false = c
+-- ---- an exchange keeps the first N apart
 
 exchanged-apart : (n N p q : ℕ) (f : ℕ → Str) → p < N → q < N → Apart n N f → Apart n N (λ i. f (exchanged p q i))
 exchanged-apart n N p q f hp hq apart i j hi hj d =
@@ -225,11 +217,6 @@ worth-signed : (n p : ℕ) (x : Str) → worth n p (signed true x) ≡ turn true
 worth-signed n p x =
     ap (expectation n) (times-times (minus_i p) i2 x ∙ ap (λ k. times k x) (comm (minus_i p) i2) ∙ sym (times-times i2 (minus_i p) x))
     ∙ expectation-signed n true (times (minus_i p) x)
-
-mul-plus : (v : Value) → v ×ᵥ plus ≡ v
-mul-plus nought = refl
-mul-plus plus = refl
-mul-plus minus = refl
 
 -- what is to be shown of p pairs from k on
 abbrev Worth : ℕ → ℕ → ℕ → ℕ → Type 0
@@ -285,7 +272,7 @@ pf-worth n (suc p) k dim size a f acc z h hz =
     by s (nothing e none) step =
         let no_value = worth-none n dim f h.apart h.turns (suc p) k (suc (dbl p)) (omega arith) (λ i l m. none i l (omega arith)) in
         rw (eq-cong s.0 +0 +0 +0 e refl ∙ eq-00) (sym (ap float (ap (λ v. z ×ᵥ v) no_value ∙ mul-nought z)))
-    by s (got e l m d) step = at s.1 l m d (eq-or-ne s.1 (suc k))
+    by s (got e l m d) step = at s.1 l m d (cases_eq s.1 (suc k))
       where
         at : (q : ℕ) → suc k ≤ q → q < dim → pairing n (f k) (f q) ≢ nought → (q ≡ suc k) ⊎ (q ≢ suc k) → nz (F (s.0, q)) ≡ float (z ×ᵥ all)
         at q l m d (inl c) =
@@ -306,7 +293,7 @@ pf-worth n (suc p) k dim size a f acc z h hz =
             to_below i b = exchanged-below q (suc k) dim i m (omega arith) b
 
             to-from : (i : ℕ) → k ≤ i → k ≤ to i
-            to-from i b = exchanged-from k q (suc k) i (omega arith) (omega arith) b
+            to-from i b = exchanged-from q (suc k) k i (omega arith) (omega arith) b
 
             moved : Matching n k dim (λ i j. a (to i) (to j)) (λ i. f (to i))
             moved = record {

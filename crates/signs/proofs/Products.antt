@@ -4,11 +4,11 @@ use mathlib.Core.Path.{◌≡◌, refl, sym, ap, ◌∙◌}
 use mathlib.Core.Logic.{◌⊎◌, inl, inr, ◌≢◌}
 use mathlib.Core.Bool.{Bool, true, false, xor, cond}
 use Prim.Native.Nat.{ℕ, zero, suc, ◌+◌, ◌≤◌, ◌<◌}
-use native.Mathlib.Nat.{add-zero, zero-add, le_refl}
+use native.Mathlib.Nat.{add-zero, zero-add, le_refl, suc-add}
 use native.Mathlib.Omega.{arith}
 use Rattle.laws.specs.Tables.{exchanged}
 use Rattle.laws.specs.Phase.{Phase, i0, i1, i2, i3, ◌⊕◌}
-use Rattle.laws.proofs.Cases.{eq-or-ne}
+use Rattle.std.proofs.lemmas.Bool.{cases_eq}
 use Rattle.laws.proofs.Tables.{exchanged-first, exchanged-second, exchanged-away}
 use Rattle.laws.proofs.Phases.{comm}
 use Rattle.signs.specs.Paulis.{sgn, Str, times, signed, mul, identity, Value, nought, plus, turn, real, flips}
@@ -40,21 +40,15 @@ module _ (n : ℕ) where
   unfolding prod
   split f k zero b x = λ i. prod f (sym (add-zero k) i) (zero-add b i) x
   split f k (suc a) b x =
-      ap (λ m. prod f k m x) (shift a b) ∙ ap (mul n (f k)) (split f (suc k) a b x ∙ ap (λ m. prod f (suc k) a (prod f m b x)) (sym (shift' k a)))
+      ap (λ m. prod f k m x) (suc-add a b) ∙ ap (mul n (f k)) (split f (suc k) a b x ∙ ap (λ m. prod f (suc k) a (prod f m b x)) (sym (shift' k a)))
     where
-      shift : (a b : ℕ) → suc a + b ≡ suc (a + b)
-      shift a b = omega arith
-
       shift' : (k a : ℕ) → k + suc a ≡ suc k + a
       shift' k a = omega arith
 
   pub prod-shift : (f : ℕ → Str) (s k m : ℕ) (x : Str) → prod f (k + s) m x ≡ prod (λ i. f (i + s)) k m x
   unfolding prod
   prod-shift f s k zero x = refl
-  prod-shift f s k (suc m) x = ap (mul n (f (k + s))) (ap (λ j. prod f j m x) (sym (shift k s)) ∙ prod-shift f s (suc k) m x)
-    where
-      shift : (k s : ℕ) → suc k + s ≡ suc (k + s)
-      shift k s = omega arith
+  prod-shift f s k (suc m) x = ap (mul n (f (k + s))) (ap (λ j. prod f j m x) (sym (suc-add k s)) ∙ prod-shift f s (suc k) m x)
 
   -- ---- signs
 
@@ -165,7 +159,7 @@ module _ (n : ℕ) where
       t = turns k (omega arith)
 
       other : (i : ℕ) → suc k ≤ i → i < suc k + m → flips ((f i).at t.mode) ≡ false
-      other i a b = by (eq-or-ne t.mode u.mode)
+      other i a b = by (cases_eq t.mode u.mode)
         where
           u : Turns n (f i)
           u = turns i (omega arith)

@@ -9,18 +9,19 @@ use native.Mathlib.Omega.{arith}
 use lib.Dec.{eqb}
 use lib.Ieee.{binary64, mul, neg, lt}
 use borrow.Author.Tests.{le-leb, lt-leb}
+use Rattle.laws.proofs.Zeros.{lt-sign}
 use Rattle.laws.specs.Zeros.{+0, +1, sg, nz}
 use Rattle.laws.specs.Matrix.{Mat}
 use Rattle.laws.specs.Maps.{Local, inside, rows, cols}
-use Rattle.laws.proofs.Cases.{lt-or-le}
+use Rattle.std.proofs.lemmas.Bool.{cases_lt}
 use Rattle.laws.proofs.Maps.{inside-yes, inside-below, inside-above}
 use Rattle.local.specs.State.{State, get}
 use Rattle.local.specs.Det.{odd}
 use Rattle.local.specs.Apply.{later, settled, step}
-use Rattle.signs.specs.Paulis.{Str, signed, Value, nought, plus, minus, turn, float, expectation}
+use Rattle.signs.specs.Paulis.{Str, signed, Value, plus, turn, float, expectation}
 use Rattle.signs.specs.Majoranas.{gamma, paired}
 use Rattle.signs.proofs.Tables.{xor-none}
-use Rattle.signs.proofs.Values.{◌×ᵥ◌, turn-turn, turn-comm, turn-xor, turn-right, sg-one, sg-value, mul-value, dot-unit}
+use Rattle.signs.proofs.Values.{◌×ᵥ◌, turn-turn, turn-comm, turn-xor, turn-right, sg-one, sg-value, mul-value, dot-unit, mul-plus}
 use Rattle.signs.proofs.Expectations.{expectation-signed, paired-signed}
 use Rattle.signs.proofs.Pairs.{pairing}
 
@@ -67,15 +68,10 @@ get-is n t f h r c hr hc =
     sign : (i : ℕ) → i < 2 * n → nz (t.d i) ≡ float (turn (h.turned i) plus)
     sign i l = ap nz (h.signs i l) ∙ sg-one (h.turned i)
 
-    neutral : (v : Value) → v ×ᵥ plus ≡ v
-    neutral nought = refl
-    neutral plus = refl
-    neutral minus = refl
-
     one : (a b : Bool) (v : Value) → turn a (turn b v) ×ᵥ turn a plus ×ᵥ turn b plus ≡ v
     one a b v =
         turn-right b (turn a (turn b v) ×ᵥ turn a plus) plus
-        ∙ ap (turn b) (neutral (turn a (turn b v) ×ᵥ turn a plus) ∙ turn-right a (turn a (turn b v)) plus ∙ ap (turn a) (neutral (turn a (turn b v)))
+        ∙ ap (turn b) (mul-plus (turn a (turn b v) ×ᵥ turn a plus) ∙ turn-right a (turn a (turn b v)) plus ∙ ap (turn a) (mul-plus (turn a (turn b v)))
         ∙ turn-turn a (turn b v))
         ∙ turn-turn b v
 
@@ -101,11 +97,6 @@ all-signs t l o t' l' o' v =
     ∙ ap (λ w. turn (xor l o) (turn (xor t o) w)) (sym (cross t' l' o' v))
     ∙ ap (turn (xor l o)) (turn-comm (xor t o) (xor l' o') (turn (xor t' o') v))
 
-lt-sign : (b : Bool) → lt (sg b +1) +0 ≡ b
-unfolding lt neg
-lt-sign false = refl
-lt-sign true = refl
-
 -- ---- the step
 
 module _ (o : Local) (act : Str → Str) (moves : Moves o act) where
@@ -125,7 +116,7 @@ module _ (o : Local) (act : Str → Str) (moves : Moves o act) where
     high : o.start + o.width ≤ a → Where a
 
   look : (a : ℕ) → Where a
-  look a = by (lt-or-le a o.start) (lt-or-le a (o.start + o.width))
+  look a = by (cases_lt a o.start) (cases_lt a (o.start + o.width))
     where
       by : (a < o.start) ⊎ (o.start ≤ a) → (a < o.start + o.width) ⊎ (o.start + o.width ≤ a) → Where a
       by (inl l) _ = low l

@@ -8,7 +8,7 @@ use native.Mathlib.Omega.{arith}
 use lib.Dec.{eqb}
 use Rattle.laws.specs.Tables.{update}
 use Rattle.laws.specs.Phase.{Phase, ◌⊕◌}
-use Rattle.laws.proofs.Cases.{eq-or-ne}
+use Rattle.std.proofs.lemmas.Bool.{cases_eq}
 use Rattle.laws.proofs.Tables.{update_here, update-away}
 use Rattle.laws.proofs.Phases.{assoc, Sums, cancel}
 use Rattle.signs.specs.Paulis.{sgn, Pauli, pr, ph, Str, times, signed, phases, mul}
@@ -72,16 +72,17 @@ phases-cong zero f f' g g' h k = refl
 phases-cong (suc n) f f' g g' h k =
     λ i. phases-cong n f f' g g' (λ w l. h w (omega arith)) (λ w l. k w (omega arith)) i ⊕ ph (h n (omega arith) i) (k n (omega arith) i)
 
+-- the last two terms of a sum change places
+swap : (a b c : Phase) → a ⊕ b ⊕ c ≡ a ⊕ c ⊕ b
+swap a b c = simp Sums
+
 phases-update : (n k : ℕ) (f g : ℕ → Pauli) (p q : Pauli) → k < n → phases n (update k p f) (update k q g) ⊕ ph (f k) (g k) ≡ phases n f g ⊕ ph p q
 unfolding phases
 phases-update zero k f g p q l = absurd (omega arith)
-phases-update (suc n) k f g p q l = by (eq-or-ne n k) (λ l'. phases-update n k f g p q l')
+phases-update (suc n) k f g p q l = by (cases_eq n k) (λ l'. phases-update n k f g p q l')
   where
     other : (w : ℕ) (p : Pauli) (f : ℕ → Pauli) → w ≢ k → update k p f w ≡ f w
     other w p f d = update-away k p f w d
-
-    swap : (a b c : Phase) → a ⊕ b ⊕ c ≡ a ⊕ c ⊕ b
-    swap a b c = simp Sums
 
     by : (n ≡ k) ⊎ (n ≢ k) → (k < n → phases n (update k p f) (update k q g) ⊕ ph (f k) (g k) ≡ phases n f g ⊕ ph p q)
         → phases n (update k p f) (update k q g) ⊕ ph (update k p f n) (update k q g n) ⊕ ph (f k) (g k) ≡ phases n f g ⊕ ph (f n) (g n) ⊕ ph p q
@@ -174,8 +175,5 @@ module _ (n k : ℕ) (s t : Str) where
       both : (Q c₁ c₂ R d₁ d₂ P : Phase) → Q ⊕ c₁ ≡ R ⊕ d₁ → R ⊕ c₂ ≡ P ⊕ d₂ → Q ⊕ (c₁ ⊕ c₂) ≡ P ⊕ (d₁ ⊕ d₂)
       both Q c₁ c₂ R d₁ d₂ P h k = sym (assoc Q c₁ c₂) ∙ ap (λ t. t ⊕ c₂) h ∙ swap R d₁ c₂ ∙ ap (λ t. t ⊕ d₁) k ∙ last P d₁ d₂
         where
-          swap : (R d c : Phase) → R ⊕ d ⊕ c ≡ R ⊕ c ⊕ d
-          swap R d c = simp Sums
-
           last : (P d₁ d₂ : Phase) → P ⊕ d₂ ⊕ d₁ ≡ P ⊕ (d₁ ⊕ d₂)
           last P d₁ d₂ = simp Sums

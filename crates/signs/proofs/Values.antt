@@ -11,7 +11,7 @@ use borrow.Author.Tests.{lt-ltb, le-ltb, eq-eqb, ne_eqb}
 use Rattle.laws.specs.Zeros.{+0, +1, sg, nz}
 use Rattle.laws.specs.Maps.{dot}
 use Rattle.laws.specs.Phase.{Phase, i0, i1, i2, i3, ◌⊕◌}
-use Rattle.laws.proofs.Cases.{lt-or-le, eq-or-ne}
+use Rattle.std.proofs.lemmas.Bool.{cases_lt, cases_eq}
 use Rattle.laws.proofs.Zeros.{add_cong, mul-cong}
 use Rattle.laws.proofs.Negatives.{sg-cong}
 use Rattle.signs.specs.Paulis.{sgn, Value, nought, plus, minus, turn, float, real}
@@ -75,6 +75,11 @@ abbrev pub ◌×ᵥ◌ : Value → Value → Value
 nought ×ᵥ w = nought
 plus ×ᵥ w = w
 minus ×ᵥ w = turn true w
+
+pub mul-plus : (v : Value) → v ×ᵥ plus ≡ v
+mul-plus nought = refl
+mul-plus plus = refl
+mul-plus minus = refl
 
 pub mul-nought : (v : Value) → v ×ᵥ nought ≡ nought
 mul-nought nought = refl
@@ -178,7 +183,7 @@ module _ (q v : ℕ → Float) (s : Bool) (p : ℕ) (val : ℕ → Value) where
       → nz (dot q v k) ≡ float (cond (ltb p k) (turn s (val p)) nought)
   unfolding dot
   unit-part zero hq hv = rw (leb-suc-zero p)
-  unit-part (suc k) hq hv = by (eq-or-ne k p) (unit-part k (λ j l. hq j (omega arith)) (λ j l. hv j (omega arith)))
+  unit-part (suc k) hq hv = by (cases_eq k p) (unit-part k (λ j l. hq j (omega arith)) (λ j l. hv j (omega arith)))
     where
       by : (k ≡ p) ⊎ (k ≢ p) → nz (dot q v k) ≡ float (cond (ltb p k) (turn s (val p)) nought)
           → nz (add binary64 (dot q v k) (mul binary64 (q k) (v k))) ≡ float (cond (ltb p (suc k)) (turn s (val p)) nought)
@@ -192,7 +197,7 @@ module _ (q v : ℕ → Float) (s : Bool) (p : ℕ) (val : ℕ → Value) where
           let away : nz (q k) ≡ +0 = hq k (omega arith) ∙ rw (ne_eqb k p d) in
           add-none-right (dot q v k) (mul binary64 (q k) (v k)) (cond (ltb p k) (turn s (val p)) nought) nought ih
           (mul-value (q k) (v k) nought (val k) away (hv k (omega arith))) refl
-          ∙ ap (λ b. float (cond b (turn s (val p)) nought)) (same (lt-or-le p k))
+          ∙ ap (λ b. float (cond b (turn s (val p)) nought)) (same (cases_lt p k))
         where
           same : (p < k) ⊎ (k ≤ p) → ltb p k ≡ ltb p (suc k)
           same (inl l) = rw (lt-ltb p k l, lt-ltb p (suc k) (omega arith))

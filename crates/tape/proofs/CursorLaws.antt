@@ -155,3 +155,6 @@ checked-passed t h g l e = by (parse t) refl e
             places = sym (ap (λ y. y.places) v);
           };
         }
+
+-- what is at a cursor, for the functions' attributes
+pub ruleset cursors = (found, found-room, found-label, found-gate)

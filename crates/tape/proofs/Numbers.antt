@@ -1,5 +1,4 @@
 -- No refusal of a tape has the number 0: header, records and whole tapes. Assumes nothing.
-use mathlib.Core.Path.{◌≡◌, refl}
 use mathlib.Core.Bool.{Bool, true, false, cond}
 use mathlib.Core.List.{List}
 use Prim.Native.Nat.{ℕ, zero, suc, ◌+◌, ◌-◌, ◌<◌}
@@ -7,6 +6,8 @@ use native.Mathlib.Omega.{arith}
 use lib.Dec.{eqb, leb, ltb}
 use lib.ListN.{length}
 use borrow.Author.Tests.{eqb-false}
+use native.Mathlib.Nat.{pos_of_ne-zero}
+use Rattle.std.proofs.lemmas.Bool.{cond_both}
 use Rattle.laws.specs.Bounds.{max_qubits}
 use Rattle.num.specs.Bits.{byte_at, f64_at}
 use Rattle.tape.specs.Bounds.{max_flags, header_length, max_gates, max_label, gate_mark, label_mark, leading}
@@ -54,17 +55,10 @@ data StepNumbered : Step → Type 0 where
   names : (start end : ℕ) → StepNumbered (Steps.Label start end)
   ends : StepNumbered Steps.End
 
-above : (k : ℕ) → (k ≡ 0 → ⊥) → 0 < k
-above zero f = absurd (f refl)
-above (suc k) f = omega arith
-
 sound-numbered : (fault i next : ℕ) → StepNumbered (sound fault i next)
 unfolding sound
-sound-numbered fault i next = by (eqb fault 0) refl
-  where
-    by : (b : Bool) → eqb fault 0 ≡ b → StepNumbered (cond b (Steps.Gate next) (Steps.Refused fault i))
-    by true e = takes next
-    by false e = refuses fault i (above fault (eqb-false fault 0 e))
+sound-numbered fault i next =
+    cond_both (eqb fault 0) _ _ StepNumbered (λ _. takes next) (λ e. refuses fault i (pos_of_ne-zero (eqb-false fault 0 e)))
 
 record-numbered : (t : List ℕ) (i n g : ℕ) → StepNumbered (record_at t i n g)
 unfolding record_at gate_record_at label_record_at

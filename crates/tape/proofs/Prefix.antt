@@ -14,7 +14,7 @@ use borrow.Author.Tests.{ltb-false, lt-leb, le-ltb}
 use Rattle.laws.specs.Bounds.{max_qubits}
 use Rattle.laws.proofs.Tests.{else_same, all_same}
 use Rattle.num.specs.Bits.{byte_at, le16, le32, le64, f64_at}
-use Rattle.laws.proofs.Cases.{lt-or-le}
+use Rattle.std.proofs.lemmas.Bool.{cases_lt}
 use Rattle.tape.specs.Bounds.{max_flags, max_gates, max_label, header_length, mark_byte, header_mark, gate_mark, label_mark, leading, longest}
 use Rattle.tape.specs.Header.{header_at, is_tolerance, header_marked, header_of}
 use Rattle.tape.specs.Codes.{qubits_of, floats_of, gate_length}
@@ -41,7 +41,7 @@ pub record Same (k : ℕ) (t u : List ℕ) : Type 0 where
 pub same-take : (k : ℕ) (t u : List ℕ) → take k t ≡ take k u → Same k t u
 same-take k t u e = record {
   bytes = λ j h. sym (get_or-take k t j 0 h) ∙ ap (λ l. get_or l j 0) e ∙ get_or-take k u j 0 h;
-  ends = by (lt-or-le (length t) k) (lt-or-le (length u) k);
+  ends = by (cases_lt (length t) k) (cases_lt (length u) k);
 }
   where
     long : min k (length t) ≡ min k (length u)

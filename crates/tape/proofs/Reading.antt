@@ -214,3 +214,6 @@ module _ (t : List ℕ) where
       by : (x : Headed) → Inside t (span_in (after_header t x) k)
       by (Head.Refused q p) = none k
       by (Head.Good h) = walk_inside h (length t) 0 header_length k
+
+-- what a reading comes to, for the functions' attributes
+pub ruleset reads = (no_header, with_header, refused_is, reads_start, reads_gate, reads_label, reads_end, reads_refused)

@@ -7,7 +7,8 @@ use native.Mathlib.Omega.{arith}
 use lib.Dec.{ltb, leb, eqb}
 use lib.ListN.{length}
 use borrow.Author.Tests.{ltb-false, leb-true, leb-false, eqb-false, eqb-true}
-use Rattle.laws.proofs.Tests.{and_right}
+use native.Mathlib.Nat.{pos_of_ne-zero}
+use Rattle.std.proofs.lemmas.Bool.{and_parts}
 use Rattle.num.specs.Bits.{byte_at}
 use Rattle.tape.specs.Bounds.{max_gates, max_label, mark_byte, gate_mark, label_mark, leading}
 use Rattle.tape.specs.Codes.{qubits_of, floats_of, gate_length}
@@ -46,7 +47,7 @@ pub data RecordIs (t : List ℕ) (i n g : ℕ) : Step → Type 0 where
 
 pub marked-second : (t : List ℕ) (i k : ℕ) → marked_at t i k ≡ true → byte_at t (i + 1) ≡ k
 unfolding marked_at
-marked-second t i k e = eqb-true _ _ (and_right (eqb (byte_at t i) mark_byte) (eqb (byte_at t (i + 1)) k) (by (ltb (length t - i) 2) e))
+marked-second t i k e = eqb-true _ _ (and_parts (eqb (byte_at t i) mark_byte) (eqb (byte_at t (i + 1)) k) (by (ltb (length t - i) 2) e)).1
   where
     by : {x : Bool} (b : Bool) → cond b false x ≡ true → x ≡ true
     by true e = absurd (let z : ◌≡◌ {A = ℕ} 0 1 = cc in omega arith)
@@ -80,12 +81,9 @@ module _ (t : List ℕ) (i n g : ℕ) (inside : i < length t) where
       by false false false true _ _ _ _ = bad inside 5
       by false false false false a b c d =
           faultless _ _ _ (leb-false _ _ a) m
-          (record { code = refl; some = positive (eqb-false _ _ c); room = fits (ltb-false _ _ d) })
+          (record { code = refl; some = pos_of_ne-zero (eqb-false _ _ c); room = fits (ltb-false _ _ d) })
           refl refl refl
         where
-          positive : {x : ℕ} → (x ≡ 0 → ⊥) → 0 < x
-          positive h = omega (arith, h)
-
           fits : {x : ℕ} → x ≤ length t - i → i + x ≤ length t
           fits h = omega arith
 

@@ -16,7 +16,7 @@ pub enum Fault {
 }
 
 impl Fault {
-    // The question's number.
+    // The question's number, by a match and not by a cast: most hold an offset.
     pub fn number(self) -> u32
         ensures { result ≡ number_of self }
     {
@@ -32,7 +32,7 @@ impl Fault {
         }
     }
 
-    // The record's offset, 0 where the header is at fault.
+    // The record's offset, 0 where the header is at fault: a number, as the format's answer has it.
     pub fn place(self) -> usize
         ensures { result ≡ place_of self }
     {

@@ -1,4 +1,5 @@
-// One record at an offset of the tape: the questions 4 to 8, in their order.
+// One record at an offset of the tape: the questions 4 to 8, in their order. Lengths are required of the tape, as in gate: a part cut out first would owe
+// the same bound.
 ghost use Rattle.std.specs.Prelude.{ℕ, ◌≡◌, ◌+◌, ◌*◌, ◌<◌, ◌≤◌, length};
 ghost use Rattle.tape.specs.Codes.{gate_length};
 ghost use Rattle.tape.specs.Records.{marked_at, code_at, qubit_at, qubits_below, qubits_differ, small_entry, entries_small};
@@ -37,6 +38,7 @@ pub fn qubit_at(t: &[u8], at: usize, j: usize) -> usize
 }
 
 // Question 6, for k qubits.
+#[tactic(auto, using(std::proofs::lemmas::Bool::Decides::nat_tests, laws::proofs::Tests::belows), unfolding(crate::specs::Records::qubits_below))]
 fn qubits_below(t: &[u8], at: usize, k: usize, n: usize) -> bool
     requires { at + 3 + k ≤ length t.now }
     ensures { result ≡ qubits_below t.now at k n }
@@ -49,7 +51,7 @@ fn qubits_below(t: &[u8], at: usize, k: usize, n: usize) -> bool
     true
 }
 
-// Question 7, for k qubits.
+// Question 7, for k qubits. By `if`: the qubits are bound to names on the way.
 #[tactic(auto, using(crate::proofs::Asked::nat), unfolding(crate::specs::Records::qubits_differ))]
 fn qubits_differ(t: &[u8], at: usize, k: usize) -> bool
     requires { at + 3 + k ≤ length t.now }
@@ -68,6 +70,7 @@ fn qubits_differ(t: &[u8], at: usize, k: usize) -> bool
 }
 
 // A NaN and the infinities fail the test.
+#[tactic(auto, using(std::proofs::lemmas::Bool::Decides::nat_tests), unfolding(crate::specs::Records::small_entry))]
 fn small_entry(x: f64) -> bool
     ensures { result ≡ small_entry x }
 {
@@ -75,6 +78,7 @@ fn small_entry(x: f64) -> bool
 }
 
 // Question 8, for k entries from `at` on.
+#[tactic(auto, using(std::proofs::lemmas::Bool::Decides::nat_tests, laws::proofs::Tests::belows), unfolding(crate::specs::Records::entries_small))]
 fn entries_small(t: &[u8], at: usize, k: usize) -> bool
     requires { at + 8 * k ≤ length t.now }
     ensures { result ≡ entries_small t.now at k }
@@ -129,6 +133,7 @@ fn gate_record(t: &[u8], at: usize, n: usize, gates: usize) -> Result<Record, Fa
 }
 
 // Whether each of the k bytes from `start` on is from 20 to 7E.
+#[tactic(auto, using(std::proofs::lemmas::Bool::Decides::nat_tests, laws::proofs::Tests::belows), unfolding(crate::specs::Records::label_bytes))]
 fn label_bytes(t: &[u8], start: usize, k: usize) -> bool
     requires { start + k ≤ length t.now }
     ensures { result ≡ label_bytes t.now start k }

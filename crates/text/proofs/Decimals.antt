@@ -9,7 +9,7 @@ use native.Mathlib.Omega.{arith}
 use lib.Dec.{ltb}
 use lib.ListN.{length, length-append}
 use borrow.Author.Tests.{ltb-false, lt-ltb, le-ltb}
-use Rattle.laws.proofs.Cases.{lt-or-le}
+use Rattle.std.proofs.lemmas.Bool.{cases_lt}
 use Rattle.std.specs.Fmt as written
 use Rattle.std.proofs.lemmas.Fmt.{decimal_by_steps}
 use Rattle.text.specs.Ascii.{digit, digits_of, decimal}
@@ -50,7 +50,7 @@ long-most (suc k) n h =
     ⊎_elim
     (λ a. omega (arith, long-last n a))
     (λ a. omega (arith, long-more n a, long-most k (n / 10) (omega (arith, pow-suc 10 (suc k)))))
-    (lt-or-le n 10)
+    (cases_lt n 10)
 
 -- ---- they are the digits that std writes
 

@@ -2,11 +2,11 @@
 use mathlib.Core.Path.{◌≡◌, refl, ap, ◌∙◌}
 use mathlib.Core.Bool.{Bool, true, false, cond, ◌&&◌}
 use mathlib.Core.List.{List, [], ◌∷◌, ◌++◌, map, reverse}
-use Prim.Native.Nat.{ℕ, zero, suc, ◌+◌, ◌*◌, ◌-◌, ◌≤◌}
+use Prim.Native.Nat.{ℕ, suc, ◌+◌, ◌*◌, ◌≤◌}
 use native.Mathlib.Omega.{arith}
 use lib.Dec.{eqb}
-use lib.ListN.{length, get_or, length-append, length-map, length-reverse}
-use lib.Ieee.{Float}
+use lib.ListN.{length, length-append, length-map, length-reverse}
+use Rattle.resolve.proofs.Wires.{blocks-few, items-few}
 use Rattle.laws.specs.Views.{until, from}
 use Rattle.gate.specs.Matrix.{mul2_of, mat4_swap_qubits_of}
 use Rattle.gate.specs.declared.matrix.Mat2.{Mat2}
@@ -18,9 +18,7 @@ use Rattle.fuse.specs.Events.{Event, gone, one, two, three, meets, touches, clea
 use Rattle.fuse.specs.Relabel.{Labelled, swap_code, slot_of, put, swapped, label, labelled, unlabelled}
 use Rattle.fuse.specs.Fuse.{joined, place, fuse_step, fused}
 use Rattle.fuse.specs.Compress.{diagonal2_of, press, compress_step, compressed}
-use Rattle.resolve.specs.Items.{Item}
-use Rattle.resolve.specs.Resolve.{Rest, none, rest, Resolved, lengthened, promised, emptied, renamed, added, item_of, candidates, chosen, resolve_step, resolved, rest_item, with_rests, start_of}
-use Rattle.resolve.specs.Choose.{Choice}
+use Rattle.resolve.specs.Resolve.{start_of}
 use Rattle.resolve.specs.Whole.{resolved_of, fuse_of}
 use Rattle.detect.specs.Report.{free_of, report_of}
 use Rattle.detect.specs.Compile.{relabels_of, labels_of, items_of, mode_of_wire, tape_counts, reported_of}
@@ -105,63 +103,17 @@ unfolding compressed
 length-compressed [] = refl
 length-compressed (e ∷ es) = length-pressed e (compressed es) ∙ ap suc (length-compressed es)
 
--- ---- an item for each event at most, and one for each slot
+-- ---- the tape: an item for each event at most, and one for each slot
 
-module _ (relabel : Bool) (tol : Float) where
-  few-step : (e : Event) (es : List Event) (r : Resolved) → length (resolve_step relabel tol e es r).items ≤ suc (length r.items)
-  few-step gone es r = omega arith
-  few-step (one w m) es r = by (eqb (get_or r.splits w 0) 0)
-    where
-      by : (t : Bool) → length (cond t (lengthened w m r) (promised w (get_or r.splits w 0 - 1) r)).items ≤ suc (length r.items)
-      by true = omega arith
-      by false = omega arith
-  few-step (two a b u) es r = by x.class.swap
-    where
-      x : Choice
-      x = (chosen relabel tol a b u es r).best
-
-      angled : Bool
-      angled = (chosen relabel tol a b u es r).angled
-
-      r' : Resolved
-      r' = emptied b x.kb (emptied a x.ka r)
-
-      n : ℕ
-      n = candidates a b es
-
-      by : (t : Bool) → length (cond t (added (item_of a b x r) 1 n angled (renamed a b r')) (added (item_of a b x r) 0 n angled r')).items
-          ≤ suc (length r.items)
-      by true = omega arith
-      by false = omega arith
-  few-step (three a b c) es r = omega arith
-
-  few-resolved : (es : List Event) (r : Resolved) → length (resolved relabel tol es r).items ≤ length es + length r.items
-  unfolding resolved
-  few-resolved [] r = omega arith
-  few-resolved (e ∷ es) r = omega (arith, few-resolved es (resolve_step relabel tol e es r), few-step e es r)
-
-few-rest : (w : ℕ) (x : Rest) → length (rest_item w x) ≤ 1
-few-rest w none = omega arith
-few-rest w (rest m) = omega arith
-
-few-rests : (r : Resolved) (k : ℕ) → length (with_rests r k) ≤ k + length r.items
-unfolding with_rests
-few-rests r zero = omega arith
-few-rests r (suc k) =
-    let x : List Item = rest_item (get_or r.content k 0) (get_or r.rests k none) in
-    omega (arith, few-rests r k, length-append x (with_rests r k), few-rest (get_or r.content k 0) (get_or r.rests k none))
-
--- ---- the tape
-
-items-few : (h : Header) (gs : List Gate) → length (items_of h gs).items ≤ length gs + h.n
+few-items : (h : Header) (gs : List Gate) → length (items_of h gs).items ≤ length gs + h.n
 unfolding items_of fuse_of resolved_of labels_of start_of unlabelled
-items-few h gs =
+few-items h gs =
     let s : Labelled = labels_of h gs in
     let es : List Event = compressed (fused s.events) in
     omega (
       arith,
-      few-rests (resolved_of (relabels_of h) h.tolerance h.n s.swaps s.events) h.n,
-      few-resolved (relabels_of h) h.tolerance (reverse es) (start_of h.n s.swaps),
+      items-few (relabels_of h) h.tolerance h.n s.swaps (reverse es),
+      blocks-few (reverse es),
       length-reverse es,
       length-compressed (fused s.events),
       length-fused s.events,
@@ -173,7 +125,7 @@ unfolding reported_of report_of tape_counts
 operations-few h gs = by (free_of (tape_counts h gs))
   where
     all : (tape_counts h gs).operations ≤ 3 * (length gs + h.n)
-    all = omega (arith, (counts-add h.tolerance (mode_of_wire h gs) (items_of h gs).items).operations, items-few h gs)
+    all = omega (arith, (counts-add h.tolerance (mode_of_wire h gs) (items_of h gs).items).operations, few-items h gs)
 
     by : (t : Bool) → cond t (tape_counts h gs).operations 0 ≤ 3 * (length gs + h.n)
     by true = all

@@ -1,13 +1,14 @@
 -- The run of a tape that is not too big: slices with room for 32 gates and 8 qubits suffice, so questions 9, 10 and 15 are answered with yes, and the
 -- text is that of the run's answer, report and state. Assumes nothing.
-use mathlib.Core.Path.{◌≡◌, refl, sym, ap, subst}
-use mathlib.Core.Bool.{Bool, true, false, cond, ◌||◌}
+use mathlib.Core.Path.{◌≡◌, refl, sym, ap}
+use mathlib.Core.Bool.{Bool, true, false, cond}
 use Prim.Native.Nat.{ℕ, ◌+◌, ◌*◌, ◌≤◌}
 use native.Mathlib.Nat.{le_refl, mul-le-mul}
 use native.Mathlib.Omega.{arith}
-use lib.Dec.{T, ltb}
+use lib.Dec.{ltb}
 use lib.ListN.{length, replicate}
 use borrow.Author.Tests.{ltb-false, le-ltb}
+use Rattle.std.proofs.lemmas.Bool.{or_parts}
 use Rattle.laws.specs.Zeros.{+0}
 use Rattle.laws.specs.Bounds.{op_places}
 use Rattle.tape.specs.Parse.{Parsed, Content, refused, accepted}
@@ -47,14 +48,10 @@ states = state_places (dim_of printed_qubits)
 
 -- ---- it suffices
 
-either : (a b : Bool) → (a || b) ≡ false → (a ≡ false) × (b ≡ false)
-either true b e = absurd (subst T e tt)
-either false b e = (refl, e)
-
 sizes : (h : Header) (c : Content) → is_large (accepted h c) ≡ false → (length c.gates ≤ printed_gates) × (h.n ≤ printed_qubits)
 unfolding is_large
 sizes h c e =
-    let b = either (ltb printed_gates (length c.gates)) (ltb printed_qubits h.n) e in
+    let b = or_parts (ltb printed_gates (length c.gates)) (ltb printed_qubits h.n) e in
     (ltb-false printed_gates (length c.gates) b.0, ltb-false printed_qubits h.n b.1)
 
 -- a verdict does not turn on the places, where there are enough

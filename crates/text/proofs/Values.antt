@@ -1,7 +1,7 @@
 -- The exact value of an f64, from its bits: below 2 in magnitude its exponent's field is small, and its millionths are those of a fraction whose
 -- divisor is a power of two. Assumes nothing.
 use mathlib.Core.Path.{◌≡◌, sym, ap, ◌∙◌, subst}
-use mathlib.Core.Logic.{◌⊎◌, inl, inr}
+use mathlib.Core.Logic.{◌⊎◌, inl, inr, ⊎_elim}
 use mathlib.Core.Bool.{Bool, true, false, cond, not}
 use Prim.Native.Nat.{ℕ, suc, ◌+◌, ◌-◌, ◌*◌, ◌/◌, ◌%◌, ◌^◌, ◌≤◌, ◌<◌}
 use native.Mathlib.Nat.{le_trans, le_of_suc-le-suc, le-add_right, not-le_of_lt, mul-one, mul-le-mul_left, mul-le-mul_right, mul-lt-mul_of_pos_right, div-lt_iff_lt-mul}
@@ -14,7 +14,7 @@ use lib.Ieee.Digits.{Equals, odd_val}
 use lib.Ieee.Fits.{down_pos, and_l, and_r}
 use lib.Ieee.Bits.{of_bits-to_bits}
 use lib.Ieee.Scale.{finite}
-use Rattle.laws.proofs.Cases.{lt-or-le}
+use Rattle.std.proofs.lemmas.Bool.{cases_lt}
 use Rattle.gate.specs.Complex.{f2}
 use Rattle.text.specs.Millionths.{rounded, million, millionths, in_range}
 use Rattle.text.proofs.Rounding.{rounded-same}
@@ -88,11 +88,7 @@ value-high x k held f h =
 
 -- a fraction a / d below 2, in other terms n / p
 less-than-two : (a d n p : ℕ) → 0 < p → a < 2 * d → a * p ≡ n * d → n < 2 * p
-less-than-two a d n p P h e = by (lt-or-le n (2 * p))
-  where
-    by : (n < 2 * p) ⊎ (2 * p ≤ n) → n < 2 * p
-    by (inl g) = g
-    by (inr g) = absurd (omega (arith, mul-lt-mul_of_pos_right h P, mul-le-mul_right d g, e))
+less-than-two a d n p P h e = ⊎_elim (λ g. g) (λ g. absurd (omega (arith, mul-lt-mul_of_pos_right h P, mul-le-mul_right d g, e))) (cases_lt n (2 * p))
 
 range-value : (x : Float) (n p : ℕ) → in_range x ≡ true → 0 < p → Equals x n p → n < 2 * p
 range-value nan n p r P e = absurd e
@@ -100,7 +96,7 @@ range-value (inf s) n p r P e = absurd e
 range-value (fin s m e) n p r P q = less-than-two (m * up e) (down e) n p P (range-below s m e r) q
 
 pub field-most : (x : Float) → T (fits binary64 x) → in_range x ≡ true → field x ≤ 1023
-field-most x held r = by (lt-or-le 1023 (field x))
+field-most x held r = by (cases_lt 1023 (field x))
   where
     by : (1023 < field x) ⊎ (field x ≤ 1023) → field x ≤ 1023
     by (inr h) = h

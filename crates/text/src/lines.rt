@@ -1,12 +1,14 @@
-// The lines of the text. A usize is cast to u64, since the library has none between them that cannot fail.
+// The lines of the text. A usize is cast to u64, since the library has none between them that cannot fail. By `push_str`, not `write!` or Display: `write!`
+// promises its text only where it answers Ok, and not that it does. How many qubits (`few`) is asked: a report may have more, one that is printed has not.
 ghost use Rattle.std.specs.Prelude.{◌≡◌, ◌+◌, ◌≤◌, ◌++◌, length};
+ghost use Rattle.detect.specs.Told.{question_of, offset_of};
 ghost use Rattle.text.specs.Bounds.{printed_qubits, max_report_line, max_order_line, max_text};
 ghost use Rattle.text.specs.Lines.{name_of, wires, report_line, order_line, z_line, refused_line};
 ghost use Rattle.text.specs.Room.{Room};
 
 use crate::millionths::push_z;
 use crate::words::{Text, push_count, push_field};
-use detect::Report;
+use detect::{Refusal, Report};
 use order::Ordering;
 
 #[tactic(auto, using(crate::proofs::Lengths::short), unfolding(crate::specs::Ascii::ascii))]
@@ -79,11 +81,11 @@ pub fn push_z_line(text: &mut Text, q: u64, x: f64)
 }
 
 #[tactic(auto, using(crate::proofs::Lengths::place_short), unfolding(crate::specs::Ascii::ascii, crate::specs::Lines::refused_line))]
-pub fn push_refused(text: &mut Text, number: u32, place: usize)
+pub fn push_refused(text: &mut Text, refusal: Refusal)
     requires { length text.old.bytes + 43 ≤ max_text }
-    ensures { text.new.bytes ≡ text.old.bytes ++ refused_line number place }
+    ensures { text.new.bytes ≡ text.old.bytes ++ refused_line (question_of refusal) (offset_of refusal) }
 {
-    push_count(text, "refused ", number);
-    push_field(text, " at ", place as u64);
+    push_count(text, "refused ", refusal.number());
+    push_field(text, " at ", refusal.place() as u64);
     text.push_str("\n");
 }

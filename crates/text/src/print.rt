@@ -11,7 +11,7 @@ use detect::Report;
 use gaussian::run;
 use laws::OP_PLACES;
 use state::expectation_z;
-use tape::check_tape;
+use tape::{Contents, check_tape};
 use work::{RECORD_FLOATS, RECORD_MARKS};
 
 const MAX_TAPE: usize = 60000;
@@ -36,13 +36,8 @@ const STATE: usize = 4 * PRINTED_QUBITS * PRINTED_QUBITS + 2 * PRINTED_QUBITS;
 fn is_too_big(tape: &[u8]) -> bool
     ensures { result ≡ is_too_big tape.now }
 {
-    if tape.len() > MAX_TAPE {
-        return true;
-    }
-    match check_tape(tape) {
-        Ok(c) => c.gates > PRINTED_GATES || c.header.n > PRINTED_QUBITS,
-        Err(_) => false,
-    }
+    let too_many = |c: Contents| c.gates > PRINTED_GATES || c.header.n > PRINTED_QUBITS;
+    tape.len() > MAX_TAPE || check_tape(tape).is_ok_and(too_many)
 }
 
 // Z of qubit q, as the query answers it.
@@ -86,7 +81,7 @@ fn push_run(text: &mut Text, tape: &[u8])
     let mut state = [0.0; STATE];
     match run(tape, &mut work, &mut marks, &mut ops, &mut state) {
         Ok(report) => push_done(text, &report, &state),
-        Err(refusal) => push_refused(text, refusal.number(), refusal.place()),
+        Err(refusal) => push_refused(text, refusal),
     }
 }
 
@@ -103,7 +98,7 @@ fn text_of(tape: &[u8]) -> Text
     text
 }
 
-// The text of a tape, at the start of `out`, and its length. The rest of `out` keeps its bytes.
+// The text of a tape, at the start of `out`, and its length. The rest of `out` keeps its bytes: the caller has a buffer, and is promised this of it.
 pub fn print_tape(tape: &[u8], out: &mut [u8; MAX_TEXT]) -> usize
     ensures end { result ≡ length (printed tape.now) }
     ensures text { out.new ≡ printed tape.now ++ drop (length (printed tape.now)) out.old }

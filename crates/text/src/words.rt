@@ -1,4 +1,5 @@
-// A text in the making: words, and numbers in decimal, one behind the other.
+// A text in the making: words, and numbers in decimal, one behind the other. `Room` is asked of each piece, since each has another length: no fact about the
+// text alone says it.
 ghost use Rattle.std.specs.Prelude.{◌≡◌, ◌+◌, ◌≤◌, ◌++◌, length};
 ghost use Rattle.text.specs.Ascii.{decimal};
 ghost use Rattle.text.specs.Bounds.{max_text};

@@ -1,7 +1,7 @@
 -- What the tests of `sqrt` say of x: above zero and finite, the infinity, a zero, or one with no root. Assumes nothing.
 use mathlib.Core.Path.{◌≡◌, refl, sym, ap, ◌∙◌, subst}
 use Prim.Native.Nat.{ℕ, zero, suc, ◌+◌, ◌*◌, ◌/◌, ◌%◌, ◌^◌, ◌≤◌, ◌<◌}
-use native.Mathlib.Nat.{zero-lt-suc, zero-mul, mul-one, mul-pos, lt_irrefl}
+use native.Mathlib.Nat.{zero-lt-suc, zero-mul, mul-one, mul-pos, lt_irrefl, pos_of_ne-zero}
 use native.Mathlib.Omega.{arith}
 use mathlib.Core.Bool.{Bool, true, false, not, cond, beq, ◌&&◌, ◌||◌, true≢false, false≢true}
 use lib.IntN.{ℤ}
@@ -47,10 +47,7 @@ suc-ne : (s : Bool) (m : ℕ) (e : ℤ) → eq (fin s (suc m) e) (of_bits binary
 unfolding eq of_bits
 suc-ne s m e =
     ap (λ (b : Bool). b && (beq s false || eqb (suc m * up e * 1) 0))
-    (ne_eqb (suc m * up e * 1) (0 * 1 * down e) (λ h. no (suc m * up e * 1) (h ∙ zero-side (down e)) (some m (up e) (up_pos e))))
-  where
-    no : (z : ℕ) → z ≡ 0 → 0 < z → ⊥
-    no z e h = omega arith
+    (ne_eqb (suc m * up e * 1) (0 * 1 * down e) (λ h. let z : suc m * up e * 1 ≡ 0 = h ∙ zero-side (down e) in omega (arith, some m (up e) (up_pos e))))
 
 -- ---- above zero
 
@@ -76,11 +73,8 @@ above (fin false (suc m) e) h = finite m e
 
 pub some_bits : (x : Float) → T (fits binary64 x) → lt (of_bits binary64 0) x ≡ true → 0 < to_bits binary64 x
 some_bits x f h =
-    go (to_bits binary64 x) (λ z. no (subst (λ (v : Float). lt (of_bits binary64 0) v ≡ true) (sym (of_bits-to_bits binary64 x f) ∙ ap (of_bits binary64) z) h))
+    pos_of_ne-zero (λ z. no (subst (λ (v : Float). lt (of_bits binary64 0) v ≡ true) (sym (of_bits-to_bits binary64 x f) ∙ ap (of_bits binary64) z) h))
   where
-    go : (b : ℕ) → (b ≡ 0 → ⊥) → 0 < b
-    go b h = omega arith
-
     no : lt (of_bits binary64 0) (of_bits binary64 0) ≡ true → ⊥
     no h = unfold lt of_bits in false≢true h
 

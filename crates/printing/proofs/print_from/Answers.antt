@@ -3,7 +3,8 @@ use Rattle.std.proofs.Common.{◌≡◌, ◌<◌, ◌≤◌, length, take, arith
 use Rattle.std.proofs.Math.Seq.{take-append_seam}
 use Rattle.std.specs.Io.KnownBytes.{Appends}
 use Rattle.text.specs.Print.{printed}
-use Rattle.printing.proofs.Cut.{written, on_ok}
+use Rattle.std.proofs.lemmas.Result.{on_ok_weaker}
+use Rattle.printing.proofs.Cut.{written}
 use Rattle.printing.proofs.print_from.Goals as goal
 
 pub returns : goal.returns
@@ -19,7 +20,7 @@ returns g c =
     ap (λ k. take k c.print_tape-end.new.out) c.print_tape-end.ensures.end
     ∙ ap (take (length (printed bs))) c.print_tape-end.ensures.text
     ∙ take-append_seam (printed bs) _ in
-    on_ok c.write_all.result _ _
+    on_ok_weaker c.write_all.result
     (λ out.
     written _ _ bs 65536 (omega arith) fits c.in_ok-n.ensures.bytes
     (λ (h : length bs < 65536). let short : n < length space = omega arith in c.in_ok-n.ensures.end short)

@@ -5,7 +5,7 @@ use lib.Dec.{T}
 use lib.Ieee.{binary64, fits, is_nan}
 use lib.Ieee.Bits.{nan_bits_is}
 use Rattle.num.proofs.OrderLaws.{abs-nan, abs-number}
-use Rattle.num.proofs.BitLaws.{not-nan, abs-bits}
+use Rattle.num.proofs.BitLaws.{abs-bits}
 use Rattle.num.proofs.order.abs.Goals as goal
 use Rattle.num.proofs.order.abs.Goals.{Else-is_nan, Start}
 
@@ -18,9 +18,6 @@ number c = sym c.is_nan.ensures.value ∙ c.if-is_nan.false
 
 pub returns-then-is_nan : goal.returns-then-is_nan
 returns-then-is_nan c = abs-nan _ (sym c.is_nan.ensures.value ∙ c.if-is_nan.true)
-
-pub float_to_bits-result : goal.float_to_bits-result
-float_to_bits-result c = not-nan _ (number c)
 
 pub float_from_bits-result : goal.float_from_bits-result
 float_from_bits-result c =

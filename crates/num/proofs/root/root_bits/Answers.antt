@@ -1,11 +1,6 @@
 -- `num::root::root_bits` meets its contract: `met` puts together what its parts ensure. Assumes nothing.
-use native.Mathlib.Omega.{arith}
-use Rattle.num.proofs.root.Tested.{short}
 use Rattle.num.proofs.root.Fields.{met}
 use Rattle.num.proofs.root.root_bits.Goals as goal
-
-pub overflow_add-result : goal.overflow_add-result
-overflow_add-result c = omega (arith, short _ _ c.evened-a.ensures.short c.nearest-r.ensures)
 
 pub returns : goal.returns
 returns c =

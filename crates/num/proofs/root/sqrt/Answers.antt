@@ -4,7 +4,7 @@ use lib.Dec.{T}
 use lib.Ieee.{Float, binary64, fits}
 use Rattle.num.specs.Root.{RootOf, sqrt_of}
 use Rattle.num.proofs.SqrtOf.{root_is}
-use Rattle.num.proofs.root.Cases.{number, some_bits, finite-root, infinity, at_zero, no-root}
+use Rattle.num.proofs.root.Cases.{some_bits, finite-root, infinity, at_zero, no-root}
 use Rattle.num.proofs.root.sqrt.Goals as goal
 use Rattle.num.proofs.root.sqrt.Goals.{Start}
 
@@ -15,9 +15,6 @@ held c = subst T (sym c.well_formed.0.1) tt
 -- so both clauses hold of a root
 both : (c : Start) (r : Float) → RootOf c.args.x r → record { nearest : RootOf c.args.x r; value : r ≡ sqrt_of c.args.x }
 both c r R = record { nearest = R; value = root_is c.args.x r (held c) R }
-
-pub float_to_bits-b : goal.float_to_bits-b
-float_to_bits-b c = number c.args.x c.if-x.true
 
 pub root_bits-requires : goal.root_bits-requires
 root_bits-requires c =

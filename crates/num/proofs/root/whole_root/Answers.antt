@@ -1,17 +1,14 @@
 -- `num::root::whole_root` meets its contract. The loop's invariant is `Turn`: q and rem are the root and the remainder of the digits taken so far. Assumes nothing.
-use mathlib.Core.Path.{◌≡◌, sym, subst, subst₂}
+use mathlib.Core.Path.{sym, subst₂}
 use Prim.Native.Nat.{ℕ, ◌+◌, ◌*◌, ◌%◌, ◌^◌, ◌<◌}
 use native.Mathlib.Omega.{arith}
-use Rattle.num.proofs.root.Turns.{Turn, start, q-fits, zero-digit, one-digit, done}
+use Rattle.num.proofs.root.Turns.{Turn, q-fits, zero-digit, one-digit}
 use Rattle.num.proofs.root.whole_root.Goals as goal
 use Rattle.num.proofs.root.whole_root.Goals.{then-t-d, else-t-d}
 use Rattle.num.proofs.root.whole_root.Goals.{In-loop-turn}
 
 short : (c : In-loop-turn) → c.loop-turn.q < 2 ^ 54
 short c = q-fits c.args.a c.loop-turn.top c.loop-turn.rem c.loop-turn.q c.loop-turn.turn c.loop-turn.invariant
-
-pub loop-turn-init : goal.loop-turn-init
-loop-turn-init c = start c.args.a c.requires
 
 pub overflow_mul-d : goal.overflow_mul-d
 overflow_mul-d c = omega (arith, short c)
@@ -25,18 +22,6 @@ overflow_mul-t c = omega (arith, short c)
 pub overflow_add-t : goal.overflow_add-t
 overflow_add-t c = omega (arith, short c)
 
-pub overflow_mul-top : goal.overflow_mul-top
-overflow_mul-top c = omega arith
-
-pub overflow_mul-q : goal.overflow_mul-q
-overflow_mul-q c = omega (arith, short c.before)
-
-pub overflow_add-q : goal.overflow_add-q
-overflow_add-q c = omega (arith, short c.before)
-
-pub overflow_mul-q-else-t-d : goal.overflow_mul-q-else-t-d
-overflow_mul-q-else-t-d c = omega (arith, short c.before)
-
 pub loop-turn-preserved : goal.loop-turn-preserved
 loop-turn-preserved c =
     let l = c.loop-turn in
@@ -46,10 +31,3 @@ loop-turn-preserved c =
       | then-t-d w ↦ subst₂ P (sym w.rem-is) (sym w.q-is) (one-digit a l.top l.rem l.q l.turn l.invariant (omega arith) w.if-t-d.true)
       | else-t-d w ↦ subst₂ P (sym w.rem-is) (sym w.q-is) (zero-digit a l.top l.rem l.q l.turn l.invariant (omega arith) w.if-t-d.false)
     ]
-
-pub returns : goal.returns
-returns c =
-    let l = c.loop-turn in
-    let a = c.args.a in
-    let e : l.turn ≡ 54 = omega arith in
-    done a l.top l.rem l.q (subst (λ (z : ℕ). Turn a l.top l.rem l.q z) e l.invariant)

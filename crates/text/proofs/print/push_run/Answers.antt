@@ -14,7 +14,6 @@ use Rattle.detect.specs.Questions.{answer_of}
 use Rattle.detect.specs.Told.{question_of, offset_of}
 use Rattle.gaussian.specs.Run.{state_after}
 use Rattle.text.specs.Bounds.{max_tape}
-use Rattle.text.specs.Lines.{refused_line}
 use Rattle.text.specs.Print.{is_large, is_too_big, run_of, done_text, text_of, printed}
 use Rattle.text.proofs.Running.{states, suffices, refused-text, done-text, few-qubits}
 use Rattle.text.proofs.print.push_run.Goals as goal
@@ -41,7 +40,6 @@ returns-in-Err c =
     let answer : refusal (question_of c.in-Err.refusal) (offset_of c.in-Err.refusal) ≡ answer_of (run_of (parse t)) =
     rw c.in-Err.is at c.run.ensures.answer ∙ ap answer_of (suffices (parse t) large) in
     rw c.requires.empty at c.push_refused.ensures
-    ∙ ap₂ refused_line c.number.ensures c.place.ensures
     ∙ sym (refused-text (run_of (parse t)) _ _ (sym (ap (λ a. a.answer) answer)))
     ∙ not-big t c.requires.fits
 
