@@ -1,10 +1,10 @@
 -- A value has one float: two floats that fit and have the same value are equal, since their bits are. So rounding gives back what fits, and a float
--- that fits, times 1.0, is itself. Assumes nothing.
+-- that fits, times 1.0 or 1.0 times it, is itself. Assumes nothing.
 use mathlib.Core.Path.{◌≡◌, refl, sym, ap, ◌∙◌, subst}
 use mathlib.Core.Logic.{⊎_elim}
 use mathlib.Core.Bool.{Bool, true, false, ◌&&◌, cond}
 use Prim.Native.Nat.{ℕ, zero, suc, ◌+◌, ◌-◌, ◌*◌, ◌/◌, ◌%◌, ◌^◌, ◌≤◌, ◌<◌}
-use native.Mathlib.Nat.{mul-one, mul_assoc, mul_right_comm, zero-mul, lt_of_lt_of_le, lt_irrefl}
+use native.Mathlib.Nat.{mul-one, one-mul, mul_assoc, mul_right_comm, zero-mul, lt_of_lt_of_le, lt_irrefl}
 use lib.Dec.{T, leb, ltb, eqb, leb→le, ltb→lt, lit<}
 use lib.IntN.{ℤ, pos, negsuc}
 use lib.Pow.{pow_pos, pow-add, pow-lt, shl_lt}
@@ -18,7 +18,7 @@ use Rattle.laws.specs.Zeros.{+1, sg}
 use Rattle.laws.specs.Dyadic.{cap, finest}
 use Rattle.laws.specs.Maps.{dot}
 use Rattle.laws.proofs.Dyadic.{round-value}
-use Rattle.laws.proofs.Negatives.{unlike-false, mul-neg}
+use Rattle.laws.proofs.Negatives.{unlike-false, false-unlike, mul-neg}
 
 -- ---- a value has one float
 
@@ -93,6 +93,13 @@ unfolding mul
 times-one nan p = refl
 times-one (inf s) p = ap inf (unlike-false s)
 times-one (fin s m e) p = (λ i. round binary64 (unlike-false s i) (mul-one (m * up e) i) (mul-one (down e) i)) ∙ round-self s m e p
+
+-- and 1.0 times it
+pub one-times : (x : Float) → T (fits binary64 x) → mul binary64 +1 x ≡ x
+unfolding mul
+one-times nan p = refl
+one-times (inf s) p = ap inf (false-unlike s)
+one-times (fin s m e) p = (λ i. round binary64 (false-unlike s i) (one-mul (m * up e) i) (one-mul (down e) i)) ∙ round-self s m e p
 
 pub times-sign : (b : Bool) (x : Float) → T (fits binary64 x) → mul binary64 x (sg b +1) ≡ sg b x
 times-sign false x p = times-one x p

@@ -16,6 +16,10 @@ pub unlike-false : (s : Bool) → unlike s false ≡ s
 unlike-false false = refl
 unlike-false true = refl
 
+pub false-unlike : (s : Bool) → unlike false s ≡ s
+false-unlike false = refl
+false-unlike true = refl
+
 pub unlike-not : (s t : Bool) → unlike s (not t) ≡ not (unlike s t)
 unlike-not false false = refl
 unlike-not false true = refl
