@@ -93,7 +93,7 @@ module _ (m x : ℕ → ℕ) where
       (λ _. omega (arith, h i (le_refl (suc i)))) (λ _. (noted_small i k (λ j g. h j (omega arith))))
 
   -- what is noted stays: it is the bit of every place that contradicts nothing
-  noted-place : (i j : ℕ) → j < i → contradicts m x j ≡ false → noted m x i (m j) ≡ suc (x j)
+  pub noted-place : (i j : ℕ) → j < i → contradicts m x j ≡ false → noted m x i (m j) ≡ suc (x j)
   unfolding noted
   noted-place zero j h c = absurd (not-suc-le-zero h)
   noted-place (suc i) j h c = by (cases_eq j i) (noted-place i j)
@@ -101,6 +101,28 @@ module _ (m x : ℕ → ℕ) where
       by : (j ≡ i) ⊎ (j ≢ i) → (j < i → contradicts m x j ≡ false → noted m x i (m j) ≡ suc (x j)) → noted m x (suc i) (m j) ≡ suc (x j)
       by (inl q) f = ap (λ i. noted m x (suc i) (m j)) (sym q) ∙ rw add-one at (noted_here m x j (m j) refl c)
       by (inr q) f = rw (f (omega arith) c, eqb-suc-zero (x j))
+
+-- ---- where the list of a marginal stops
+
+module _ (n : ℕ) (modes qs xs : List ℕ) where
+  abbrev pub stops : ℕ → Bool
+  stops j = outside n qs j || contradicts (mode_listed modes qs) (bit_listed xs) j
+
+  -- nothing stops before the place
+  module _ (j : ℕ) (h : j < stop_place n modes qs xs) where
+    passed : stops j ≡ false
+    unfolding stop_place
+    passed = first-before stops (length qs) 0 j (omega arith) h
+
+    pub listed_below : get_or qs j 0 < n
+    listed_below = leb-false n (get_or qs j 0) (or_parts (outside n qs j) (contradicts (mode_listed modes qs) (bit_listed xs) j) passed).0
+
+    pub no-contradiction : contradicts (mode_listed modes qs) (bit_listed xs) j ≡ false
+    no-contradiction = (or_parts (outside n qs j) (contradicts (mode_listed modes qs) (bit_listed xs) j) passed).1
+
+  pub stop_hit : stop_place n modes qs xs < length qs → stops (stop_place n modes qs xs) ≡ true
+  unfolding stop_place
+  stop_hit h = first_passes stops (length qs) 0 (omega arith)
 
 -- ---- the list of a marginal on a basis state
 
@@ -111,28 +133,9 @@ module _ (n : ℕ) (b r : ℕ → Bool) (e : Mat) (modes : List ℕ) (R : Reads 
   abbrev x : ℕ → ℕ
   x = bit_listed xs
 
-  abbrev stops : ℕ → Bool
-  stops j = outside n qs j || contradicts m x j
-
-  -- nothing stops before the place
-  module _ (j : ℕ) (h : j < stop_place n modes qs xs) where
-    passed : stops j ≡ false
-    unfolding stop_place
-    passed = first-before stops (length qs) 0 j (omega arith) h
-
-    listed_below : get_or qs j 0 < n
-    listed_below = leb-false n (get_or qs j 0) (or_parts (outside n qs j) (contradicts m x j) passed).0
-
-    no-contradiction : contradicts m x j ≡ false
-    no-contradiction = (or_parts (outside n qs j) (contradicts m x j) passed).1
-
   -- the qubit's bit is its mode's
   place-agrees : differs n r qs xs ≡ false → (j : ℕ) → j < length qs → get_or qs j 0 < n → x j ≡ bit (b (m j))
   place-agrees d j h g = differs-each n r qs xs (bits-asked qs xs ok).many d j h g ∙ ap bit (sym (R.bits (get_or qs j 0) g))
-
-  hit : stop_place n modes qs xs < length qs → stops (stop_place n modes qs xs) ≡ true
-  unfolding stop_place
-  hit h = first_passes stops (length qs) 0 (omega arith)
 
   -- a contradiction: both bits were asked of one qubit
   pub stopped-differs : stop_place n modes qs xs < length qs → get_or qs (stop_place n modes qs xs) 0 < n → differs n r qs xs ≡ true
@@ -143,12 +146,12 @@ module _ (n : ℕ) (b r : ℕ → Bool) (e : Mat) (modes : List ℕ) (R : Reads 
 
       by : (t : Bool) → differs n r qs xs ≡ t → t ≡ true
       by true d = refl
-      by false d = absurd (false≢true (sym agreed ∙ hit h))
+      by false d = absurd (false≢true (sym agreed ∙ stop_hit n modes qs xs h))
         where
-          agreed : stops place ≡ false
+          agreed : stops n modes qs xs place ≡ false
           agreed = rw (lt-leb n (get_or qs place 0) g)
               (ap (λ y. conflicts_of (noted m x place (m place)) (suc y)) (place-agrees d place h g)
-              ∙ noted-agrees m x b place (m place) (λ j l. place-agrees d j (omega arith) (listed_below j l)))
+              ∙ noted-agrees m x b place (m place) (λ j l. place-agrees d j (omega arith) (listed_below n modes qs xs j l)))
 
   -- marks are 0, 1 or 2
   pub asked-small : (k : ℕ) → asked modes qs xs k ≤ 2
@@ -157,7 +160,7 @@ module _ (n : ℕ) (b r : ℕ → Bool) (e : Mat) (modes : List ℕ) (R : Reads 
   module _ (h : length qs ≤ stop_place n modes qs xs) where
     -- no qubit differs: no mode does
     pub asked-agrees : differs n r qs xs ≡ false → (k : ℕ) → conflicts_of (asked modes qs xs k) (suc (bit (b k))) ≡ false
-    asked-agrees d k = noted-agrees m x b (length qs) k (λ j l. place-agrees d j l (listed_below j (omega arith)))
+    asked-agrees d k = noted-agrees m x b (length qs) k (λ j l. place-agrees d j l (listed_below n modes qs xs j (omega arith)))
 
     -- a qubit differs: its mode does
     pub asked-differs : differs n r qs xs ≡ true → (k : ℕ) × ((k < n) × (conflicts_of (asked modes qs xs k) (suc (bit (b k))) ≡ true))
@@ -165,6 +168,6 @@ module _ (n : ℕ) (b r : ℕ → Bool) (e : Mat) (modes : List ℕ) (R : Reads 
         let o = differs-some n r qs xs d in
         let j = o.at in
         let y = bit (b (m j)) in
-        let there : asked modes qs xs (m j) ≡ suc (x j) = noted-place m x (length qs) j o.within (no-contradiction j (omega (arith, o.within))) in
+        let there : asked modes qs xs (m j) ≡ suc (x j) = noted-place m x (length qs) j o.within (no-contradiction n modes qs xs j (omega (arith, o.within))) in
         let ne : x j ≢ y = λ z. o.other (z ∙ ap bit (R.bits (get_or qs j 0) o.below)) in
         (m j, (mode-below n modes R.table (get_or qs j 0) o.below, ap (λ t. conflicts_of t (suc y)) there ∙ clash (x j) y ne))

@@ -1,28 +1,24 @@
--- Z of one qubit and Z products on a basis state: where a query answers, it answers as the register does. The modes left of a list are those that it
+-- Z products on a basis state: where a query answers, it answers as the register does. The modes left of a list are those that it
 -- has an odd number of times. Their rows and columns are the covariance of their bits, so the Pfaffian is -1.0 if an odd number of ones is left, and
 -- that is so if an odd number of ones is listed. Assumes nothing.
-use mathlib.Core.Path.{◌≡◌, refl, ap, ◌∙◌, subst}
+use mathlib.Core.Path.{◌≡◌, refl, ap, ◌∙◌}
 use mathlib.Core.Bool.{Bool, true, false, not, cond}
 use mathlib.Core.List.{List, [], ◌∷◌}
-use Prim.Native.Nat.{ℕ, ◌+◌, ◌*◌, ◌≤◌, ◌<◌}
+use Prim.Native.Nat.{ℕ, ◌≤◌, ◌<◌}
 use native.Mathlib.Nat.{le_refl}
-use native.Mathlib.Numerals.{add-one}
 use native.Mathlib.Omega.{arith}
 use lib.Dec.{ltb}
-use lib.IntN.{ℤ, nat_abs}
+use lib.IntN.{nat_abs}
 use lib.ListN.{length, get_or}
 use lib.Ieee.{Float}
-use borrow.Author.Tests.{ltb-true, ltb-false, leb-false}
+use borrow.Author.Tests.{ltb-false, leb-false}
 use Rattle.laws.specs.Zeros.{+1, sg}
-use Rattle.laws.specs.Dyadic.{Dy, with_sign}
+use Rattle.laws.specs.Dyadic.{with_sign}
 use Rattle.laws.specs.Matrix.{Mat}
-use Rattle.laws.specs.Tables.{mode_at}
 use Rattle.laws.proofs.Integers.{abs-sign}
 use Rattle.monomial.specs.Monomial.{flip}
-use Rattle.monomial.specs.Basis.{basis}
 use Rattle.state.specs.Questions.{state_ok}
 use Rattle.state.specs.Answers.{accepted, refused}
-use Rattle.state.specs.Calls.{z_of, expectation_z_of}
 use Rattle.state.proofs.Permutations.{mode-below}
 use Rattle.queries.specs.Lists.{oddly, passing, mode_listed, outside, bad_place, odd_mode, odd_modes}
 use Rattle.queries.specs.Products.{dim_left, restricted, product_of}
@@ -30,43 +26,9 @@ use Rattle.queries.specs.Calls.{covariance_of, work_ok, worked, expectation_z_pr
 use Rattle.queries.proofs.Searches.{odd-same, passing-ascends}
 use Rattle.basis.specs.Holds.{Reads}
 use Rattle.basis.specs.Answers.{odd_ones, register_product}
-use Rattle.basis.proofs.Pairs.{pairs_first, pf-signs, sign-float}
+use Rattle.basis.proofs.Pairs.{pf-signs}
 use Rattle.basis.proofs.First.{none_passes}
 use Rattle.basis.proofs.Listed.{listed-basis, odd-first, odd-listed, odd-counted}
-
--- ---- one qubit
-
--- Z of mode k
-z-is : (n : ℕ) (b r : ℕ → Bool) (e : Mat) (modes : List ℕ) → Reads n b r e modes → (k : ℕ) → k < n → z_of e k ≡ sg (b k) +1
-z-is n b r e modes h k l =
-    sign-float (b k) (z_of e k) (h.floats (2 * k) (2 * k + 1))
-    (subst (λ (z : ℤ). Dy 0 z (z_of e k)) first (h.covariance (2 * k) (2 * k + 1) (omega arith) (omega arith)))
-  where
-    first : basis b (2 * k) (2 * k + 1) ≡ with_sign (b k) 1
-    first = ap (basis b (2 * k)) (add-one (2 * k)) ∙ pairs_first (λ k. with_sign (b k) 1) (λ k. with_sign (not (b k)) 1) k (2 * k) refl
-
-pub expectation-told : (n : ℕ) (b r : ℕ → Bool) (s : List Float) (modes : List ℕ) → Reads n b r (covariance_of n s) modes → (q : ℕ)
-    → (expectation_z_of n s modes q).number ≡ 0 → expectation_z_of n s modes q ≡ accepted (register_product r (q ∷ []))
-unfolding expectation_z_of odd_ones
-expectation-told n b r s modes h q e = by (state_ok n s modes) (ltb q n) refl e
-  where
-    alone : (t : Bool) → t ≡ flip t false
-    alone false = refl
-    alone true = refl
-
-    z : Float
-    z = z_of (covariance_of n s) (mode_at modes q)
-
-    is : q < n → z ≡ sg (flip (r q) false) +1
-    is l =
-        z-is n b r (covariance_of n s) modes h (mode_at modes q) (mode-below n modes h.table q l)
-        ∙ ap (λ (t : Bool). sg t +1) (h.bits q l ∙ alone (r q))
-
-    by : (t u : Bool) → ltb q n ≡ u → (cond t (cond u (accepted z) (refused 19 0)) (refused 16 0)).number ≡ 0
-        → cond t (cond u (accepted z) (refused 19 0)) (refused 16 0) ≡ accepted (sg (flip (r q) false) +1)
-    by true true l e = ap accepted (is (ltb-true q n l))
-    by true false l e = absurd (omega arith)
-    by false u l e = absurd (omega arith)
 
 -- ---- products
 

@@ -56,7 +56,7 @@ module _ (t : List ℕ) (work : List Float) (marks : List ℕ) (ops state : List
               long = lent.long;
               same = λ q l. lent.same q l ∙ get_or-drop (2 * max_qubits) tables q 0 ∙ modes-are q (omega (arith, l, few));
             } in
-            subst (λ (k : ℕ). RightAnswers y.header.n modes (register_bits y.content.gates) qs (answers answer k s modes qs)) (sym n)
+            subst (λ (k : ℕ). RightAnswers y.header.n (register_bits y.content.gates) qs (answers answer k s modes qs)) (sym n)
             (y.right modes table qs);
       }
 

@@ -1,7 +1,7 @@
 // Calls on a state. Each export asks for room and then makes its call: C names each by itself, with slices of its own, and what they share is in said.rt.
 ghost use Rattle.std.specs.Prelude.{◌≡◌, cond, leb, length, set};
-ghost use Rattle.state.specs.Calls.{apply_answer, apply_state, expectation_z_of};
-ghost use Rattle.queries.specs.Calls.{expectation_z_product_of, expectation_z_product_work, z_correlation_of, z_correlation_work};
+ghost use Rattle.state.specs.Calls.{apply_answer, apply_state};
+ghost use Rattle.queries.specs.Calls.{expectation_z_product_of, expectation_z_product_work};
 ghost use Rattle.queries.specs.Calls.{marginal_probability_of, marginal_probability_work, probability_of, probability_work, sample_of, sample_work, sample_out};
 ghost use Rattle.engine.specs.Answers.{no_room, has_places, Tells};
 
@@ -16,49 +16,6 @@ pub extern "C" fn jozkeral_apply(n: usize, state: &mut [f64], modes: &[u16], op:
 {
     let t = Told::from(state::apply(n, state, modes, op));
     t.number
-}
-
-// Z of one qubit.
-#[unsafe(no_mangle)]
-pub extern "C" fn jozkeral_expectation_z(
-    n: usize,
-    state: &[f64],
-    modes: &[u16],
-    q: usize,
-    place: &mut [u64],
-    answer: &mut [f64],
-) -> u64
-    ensures { Tells (expectation_z_of n state.now modes.now q) place.old answer.old result
-        place.new answer.new }
-{
-    if has_places(place.len(), answer.len()) {
-        return tell(state::expectation_z(n, state, modes, q), place, answer);
-    }
-    NO_ROOM
-}
-
-// The product of Z over two qubits.
-#[unsafe(no_mangle)]
-pub extern "C" fn jozkeral_z_correlation(
-    n: usize,
-    state: &[f64],
-    modes: &[u16],
-    i: usize,
-    j: usize,
-    work: &mut [f64],
-    place: &mut [u64],
-    answer: &mut [f64],
-) -> u64
-    ensures answer { Tells (z_correlation_of n state.now modes.now i j work.old)
-        place.old answer.old result place.new answer.new }
-    ensures work { work.new ≡ cond (has_places (length place.old) (length answer.old))
-        (z_correlation_work n state.now modes.now i j work.old) work.old }
-{
-    if has_places(place.len(), answer.len()) {
-        let a = queries::z_correlation(n, state, modes, i, j, work);
-        return tell(a, place, answer);
-    }
-    NO_ROOM
 }
 
 // The product of Z over the listed qubits.

@@ -6,4 +6,5 @@ pub mod Leaving
 pub mod Sampling
 pub mod Same
 pub mod Indices
+pub mod One
 pub mod Edges

@@ -5,6 +5,7 @@ use mathlib.Core.Bool.{Bool, true, false, not, cond, ◌&&◌, and-false}
 use mathlib.Core.List.{List}
 use Rattle.std.proofs.Common.{Option, Some, None}
 use Prim.Native.Nat.{ℕ, zero, suc, ◌+◌, ◌≤◌, ◌<◌}
+use native.Mathlib.Nat.{le_refl}
 use native.Mathlib.Numerals.{add-one}
 use native.Mathlib.Omega.{arith}
 use lib.Dec.{eqb, leb, ltb}
@@ -21,7 +22,8 @@ use Rattle.pfaffian.specs.Shot.{bit}
 use Rattle.queries.specs.Lists.{odd_modes, mode_listed, odd_mode, noted, conflicts_of, contradicts, bits_ok, passing}
 use Rattle.std.specs.Option.{is_some, unwrap_or}
 use Rattle.queries.specs.Marginals.{is_one}
-use Rattle.queries.specs.Inner.{Marked, Odd, Asked, mark_of, Below}
+use Rattle.queries.specs.Inner.{Marked, Odd, Spans, Asked, mark_of, Below}
+use Rattle.queries.specs.declared.lists.Span.{Span}
 use Rattle.queries.proofs.Searches.{odd-on, odd-off, passing-same, passing-ascends}
 
 -- ---- one mark set
@@ -61,6 +63,28 @@ odd-turn n modes qs odd i k x h e w ex =
     marked-set false (λ b. b) n _ _ odd k x h w
     (ex ∙ ap not (w.each k h) ∙ sym (odd-on (λ j. eqb (mode_listed modes qs j) k) i (eq-eqb (mode_listed modes qs i) k (sym e))))
     (λ j ne. odd-off (λ i. eqb (mode_listed modes qs i) j) i (ne_eqb (mode_listed modes qs i) j (λ q. ne (sym q ∙ sym e))))
+
+-- all modes, whatever passes
+pub spans-all : (n : ℕ) (p : ℕ → Bool) → Spans n p (record { low = 0; end = n })
+spans-all n p = record {
+  low = omega arith;
+  end = le_refl n;
+  before = λ k h. absurd (omega (arith, h));
+  after = λ k h l. absurd (omega (arith, h, l));
+}
+
+-- the span takes the mode in
+pub span-turn : (n : ℕ) (modes qs : List ℕ) (i k : ℕ) (was now : Span) → k ≡ mode_listed modes qs i → Spans n (odd_mode modes qs i) was
+    → (now.low ≤ was.low) × (now.low ≤ k) → (was.end ≤ now.end) × (k < now.end) → now.end ≤ n → Spans n (odd_mode modes qs (i + 1)) now
+span-turn n modes qs i k was now e w low end fits = record {
+  low = omega (arith, w.low, low.0);
+  end = fits;
+  before = λ j h. still j (omega (arith, h, low.1)) ∙ w.before j (omega (arith, h, low.0));
+  after = λ j h l. still j (omega (arith, h, end.1)) ∙ w.after j (omega (arith, h, end.0)) l;
+}
+  where
+    still : (j : ℕ) → j ≢ k → odd_mode modes qs (i + 1) j ≡ odd_mode modes qs i j
+    still j ne = odd-off (λ i. eqb (mode_listed modes qs i) j) i (ne_eqb (mode_listed modes qs i) j (λ q. ne (sym q ∙ sym e)))
 
 -- ---- the bits that modes are asked for
 

@@ -10,6 +10,7 @@ use native.Mathlib.Omega.{arith}
 use lib.ListN.{length, get_or, length-append, get_or-append}
 use lib.Seq.{get_or-append-add}
 use Rattle.std.proofs.lemmas.Bool.{cases_lt, cases_eq, cond_both}
+use Rattle.laws.specs.Tests.{count}
 use Rattle.queries.specs.Lists.{first_from, oddly, passing}
 
 -- ---- the first, as a loop from k on meets it
@@ -168,6 +169,26 @@ module _ (p : ℕ → Bool) where
           larger i j g (inr q) =
               let h : i < length l = omega arith in
               rw (early-snoc l n j q, early-snoc l n i h) (w.larger i j g q)
+
+  -- none from k on: those below k are all
+  pub passing-rest : (k n : ℕ) → k ≤ n → ((j : ℕ) → k ≤ j → j < n → p j ≡ false) → passing p k ≡ passing p n
+  unfolding passing
+  passing-rest k zero l h = let e : k ≡ 0 = omega arith in ap (passing p) e
+  passing-rest k (suc n) l h = by (cases_lt k (suc n)) (passing-rest k n)
+    where
+      by : (k < suc n) ⊎ (suc n ≤ k) → (k ≤ n → ((j : ℕ) → k ≤ j → j < n → p j ≡ false) → passing p k ≡ passing p n) → passing p k ≡ passing p (suc n)
+      by (inr g) rest = let e : k ≡ suc n = omega arith in ap (passing p) e
+      by (inl g) rest = rw (h n (omega arith) (omega arith)) (rest (omega arith) (λ j a b. h j a (omega arith)))
+
+  -- as many as pass
+  pub passing-count : (n : ℕ) → length (passing p n) ≡ count p n
+  unfolding passing count
+  passing-count zero = refl
+  passing-count (suc n) = by (p n) (passing-count n)
+    where
+      by : (t : Bool) → length (passing p n) ≡ count p n → length (cond t (passing p n ++ (n ∷ [])) (passing p n)) ≡ cond t 1 0 + count p n
+      by true e = long-snoc (passing p n) n ∙ omega (arith, e)
+      by false e = omega (arith, e)
 
   -- every number below n that passes is one of them
   pub passing-all : (n k : ℕ) → k < n → p k ≡ true → (j : ℕ) × ((j < length (passing p n)) × (get_or (passing p n) j 0 ≡ k))

@@ -1,6 +1,6 @@
 -- What the public calls answer, by their questions in order, and what they leave in work and output. Every query is a function of the matrix `get`;
 -- the state is only read. Definitions only. A public promise rests on this.
-use Rattle.std.specs.Prelude.{Bool, cond, List, [], ◌∷◌, ℕ, ◌*◌, leb, ltb, get_or, length, Float}
+use Rattle.std.specs.Prelude.{Bool, cond, List, ℕ, ◌*◌, leb, ltb, get_or, length, Float}
 use Rattle.laws.specs.Zeros.{+0}
 use Rattle.laws.specs.Slices.{filled}
 use Rattle.laws.specs.Matrix.{Mat}
@@ -55,13 +55,6 @@ expectation_z_product_of n s modes qs w =
 unfoldable pub expectation_z_product_work : ℕ → List Float → List ℕ → List ℕ → List Float → List Float
 expectation_z_product_work n s modes qs w =
     cond (state_ok n s modes) (cond (ltb (bad_place n qs) (length qs)) w (product_work (odd_modes n modes qs) w)) w
-
--- of two qubits
-abbrev pub z_correlation_of : ℕ → List Float → List ℕ → ℕ → ℕ → List Float → Told
-z_correlation_of n s modes i j w = expectation_z_product_of n s modes (i ∷ j ∷ []) w
-
-abbrev pub z_correlation_work : ℕ → List Float → List ℕ → ℕ → ℕ → List Float → List Float
-z_correlation_work n s modes i j w = expectation_z_product_work n s modes (i ∷ j ∷ []) w
 
 -- ---- a marginal: questions 16, 18, 19 and 20
 

@@ -6,6 +6,7 @@ use Rattle.laws.specs.Matrix.{Mat, at, matrix}
 use Rattle.laws.specs.Steps.{Mask, masked, in_row}
 use Rattle.pfaffian.specs.Shot.{bit}
 use Rattle.queries.specs.Marginals.{half_spin_of, shifted}
+use Rattle.queries.specs.declared.lists.Span.{Span}
 use Rattle.queries.specs.declared.lists.Noted.{Noted}
 use Rattle.queries.specs.declared.lists.Noted.TheVariants.{Agreeing, Contradictory}
 
@@ -17,6 +18,13 @@ pub record Marked {A B : Type 0} (d : A) (read : A → B) (n : ℕ) (f : ℕ →
 -- of a product: whether its list has a mode an odd number of times
 abbrev pub Odd : ℕ → (ℕ → Bool) → List Bool → Type 0
 Odd n f odd = Marked false (λ b. b) n f odd
+
+-- the modes below n that pass are among those from low up to end
+pub record Spans (n : ℕ) (p : ℕ → Bool) (among : Span) : Type 0 where
+  pub low : among.low ≤ n
+  pub end : among.end ≤ n
+  pub before : (k : ℕ) → k < among.low → p k ≡ false
+  pub after : (k : ℕ) → among.end ≤ k → k < n → p k ≡ false
 
 -- of a marginal: the bit that a mode is asked for; as its mark 0 if there is none, else one more than the bit
 abbrev pub mark_of : Option Bool → ℕ

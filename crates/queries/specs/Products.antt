@@ -8,6 +8,10 @@ use Rattle.pfaffian.specs.Pfaffian.{pfaffian_of}
 abbrev pub index_of : List ℕ → ℕ → ℕ
 index_of l r = 2 * get_or l (r / 2) 0 + r % 2
 
+-- Z of mode k: what the covariance e has of its two Majorana operators
+abbrev pub z_of : Mat → ℕ → Float
+z_of e k = e (2 * k) (2 * k + 1)
+
 -- the covariance e, only those rows and columns
 abbrev pub restricted : Mat → List ℕ → Mat
 restricted e l r c = e (index_of l r) (index_of l c)

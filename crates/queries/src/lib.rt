@@ -14,5 +14,5 @@ mod samples; // samples.rt: shots
 
 pub use basis::probability;
 pub use marginals::marginal_probability;
-pub use products::{expectation_z_product, z_correlation};
+pub use products::expectation_z_product;
 pub use samples::sample;

@@ -6,7 +6,7 @@ ghost use Rattle.arrayvec.specs.ArrayVec.{array_vec_len};
 ghost use Rattle.laws.specs.Bounds.{max_qubits};
 ghost use Rattle.pfaffian.specs.Shot.{bit};
 ghost use Rattle.queries.specs.Lists.{bad_place, odd_mode, bits_ok, bit_listed, mode_listed, stop_place, conflicts_of, noted, passing};
-ghost use Rattle.queries.specs.Inner.{Odd, Asked, Says, mark_of};
+ghost use Rattle.queries.specs.Inner.{Odd, Spans, Asked, Says, mark_of};
 
 use arrayvec::ArrayVec;
 use laws::MAX_QUBITS;
@@ -19,24 +19,56 @@ pub enum Noted {
     Contradictory,
 }
 
-// The modes of odd count are marked, and a qubit that is not below n is refused (question 19): then the marks are those of the places
-// before it.
-pub fn mark_odd(checked: Checked, qubits: &[usize], odd: &mut [bool]) -> Result<(), Refusal>
+// The modes from `low` up to `end`: those that a list has are among them. So a list of one qubit does not look at all n modes.
+#[derive(Clone, Copy)]
+pub struct Span {
+    pub low: usize,
+    pub end: usize,
+}
+
+impl Span {
+    // With mode k.
+    fn with(self, k: usize) -> Span
+        requires { k < max_qubits }
+        ensures low { (result.low ≤ self.low) × (result.low ≤ k) }
+        ensures end { (self.end ≤ result.end) × (k < result.end) }
+        ensures least { (m : ℕ) → self.end ≤ m → k < m → result.end ≤ m }
+    {
+        let mut with = self;
+        if k < with.low {
+            with.low = k;
+        }
+        if with.end <= k {
+            with.end = k + 1;
+        }
+        with
+    }
+}
+
+// The modes of odd count are marked, and where they are is said; a qubit that is not below n is refused (question 19): then the marks are
+// those of the places before it.
+pub fn mark_odd(checked: Checked, qubits: &[usize], odd: &mut [bool]) -> Result<Span, Refusal>
     requires { Odd checked.n (λ k. false) odd.old }
     ensures answer { let place = bad_place checked.entry.n qubits.now in
-        MatchResult result (λ _. place ≡ length qubits.now)
+        MatchResult result (λ span. (place ≡ length qubits.now)
+        × Spans checked.entry.n (odd_mode checked.entry.modes.now qubits.now place) span)
         (λ why. (place < length qubits.now) × (why ≡ Refusal.BadQubit place)) }
     ensures marks { let place = bad_place checked.entry.n qubits.now in
         Odd checked.entry.n (odd_mode checked.entry.modes.now qubits.now place) odd.new }
 {
+    let mut span = Span {
+        low: checked.n,
+        end: 0,
+    };
     for (i, q) in qubits.iter().enumerate() {
         if *q >= checked.n {
             return Err(Refusal::BadQubit(i));
         }
         let k = checked.mode_of(*q);
+        span = span.with(k);
         odd[k] = !odd[k];
     }
-    Ok(())
+    Ok(span)
 }
 
 // As many bits as qubits, each 0 or 1: question 18.
@@ -98,16 +130,17 @@ pub fn note_bits(
     Ok(Noted::Agreeing)
 }
 
-// The modes below n that pass a test, ascending.
-pub fn list_modes<F: Fn(usize) -> bool>(n: usize, left: F) -> ArrayVec<usize, MAX_QUBITS>
-    requires room { n ≤ max_qubits }
-    requires callable { (k : ℕ) → k < n → F.pre left k }
-    ensures fits { array_vec_len result ≤ n }
-    ensures modes { (p : ℕ → Bool) → ((k : ℕ) (b : Bool) → k < n → F.post left k b → b ≡ p k)
+// The modes that pass a test, ascending, where those that do are among the given ones.
+pub fn list_modes<F: Fn(usize) -> bool>(among: Span, left: F) -> ArrayVec<usize, MAX_QUBITS>
+    requires room { among.end ≤ max_qubits }
+    requires callable { (k : ℕ) → k < among.end → F.pre left k }
+    ensures fits { array_vec_len result ≤ among.end }
+    ensures modes { (n : ℕ) (p : ℕ → Bool) → Spans n p among
+        → ((k : ℕ) (b : Bool) → k < among.end → F.post left k b → b ≡ p k)
         → result.items ≡ passing p n }
 {
     let mut list = ArrayVec::new();
-    for k in 0..n {
+    for k in among.low..among.end {
         if left(k) {
             list.push(k);
         }

@@ -7,7 +7,7 @@ ghost use Rattle.queries.specs.Marginals.{is_one, sign_of, at_least_zero_of};
 ghost use Rattle.queries.specs.Calls.{covariance_of, marked_answer, marked_work, marginal_probability_of, marginal_probability_work};
 ghost use Rattle.queries.specs.Inner.{mark_at};
 
-use super::lists::{Noted, check_bits, list_modes, note_bits};
+use super::lists::{Noted, Span, check_bits, list_modes, note_bits};
 use super::matrices::{ask, pfaffian_cleared};
 use laws::MAX_QUBITS;
 use real::Square;
@@ -49,7 +49,11 @@ pub fn marked_probability(
         checked.entry.n (mark_at asked.now) work.old }
     ensures work { work.new ≡ marked_work checked.entry.n (mark_at asked.now) work.old }
 {
-    let list = list_modes(checked.n, |k| asked[k].is_some());
+    let all = Span {
+        low: 0,
+        end: checked.n,
+    };
+    let list = list_modes(all, |k| asked[k].is_some());
     let dim = 2 * list.len();
     if work.len() < dim * dim {
         return Err(Refusal::SmallWork);

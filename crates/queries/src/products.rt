@@ -3,24 +3,31 @@
 ghost use Rattle.std.specs.Prelude.{◌≡◌, false, ◌≤◌, length, get_or};
 ghost use Rattle.state.specs.Answers.{told};
 ghost use Rattle.queries.specs.Lists.{passing};
+ghost use Rattle.queries.specs.Inner.{Spans};
 ghost use Rattle.queries.specs.Calls.{covariance_of, product_answer, product_work};
-ghost use Rattle.queries.specs.Calls.{expectation_z_product_of, expectation_z_product_work, z_correlation_of, z_correlation_work};
+ghost use Rattle.queries.specs.Calls.{expectation_z_product_of, expectation_z_product_work};
 
-use super::lists::{list_modes, mark_odd};
+use super::lists::{Span, list_modes, mark_odd};
 use super::matrices::{pfaffian_cleared, restrict};
 use laws::MAX_QUBITS;
 use real::Square;
 use state::{Checked, Refusal};
 
-// The product over the marked modes: question 20. Marks have a place for each mode that there can be; the first n count.
-fn product_marked(checked: Checked, odd: &[bool], work: &mut [f64]) -> Result<f64, Refusal>
-    requires { checked.n ≤ length odd.now }
+// The product over the marked modes, which are among the given ones: question 20. Marks have a place for each mode that there can be; the first n count.
+fn product_marked(
+    checked: Checked,
+    odd: &[bool],
+    among: Span,
+    work: &mut [f64],
+) -> Result<f64, Refusal>
+    requires long { checked.n ≤ length odd.now }
+    requires among { Spans checked.n (λ k. get_or odd.now k false) among }
     ensures answer { let left = passing (λ k. get_or odd.now k false) checked.entry.n in
         told result
         ≡ product_answer (covariance_of checked.entry.n checked.entry.state.now) left work.old }
     ensures work { work.new ≡ product_work (passing (λ k. get_or odd.now k false) checked.entry.n) work.old }
 {
-    let list = list_modes(checked.n, |k| odd[k]);
+    let list = list_modes(among, |k| odd[k]);
     let dim = 2 * list.len();
     if work.len() < dim * dim {
         return Err(Refusal::SmallWork);
@@ -44,22 +51,6 @@ pub fn expectation_z_product(
 {
     let checked = Checked::new(n, state, modes)?;
     let mut odd = [false; MAX_QUBITS];
-    mark_odd(checked, qubits, &mut odd)?;
-    product_marked(checked, &odd, work)
-}
-
-// Of two qubits.
-pub fn z_correlation(
-    n: usize,
-    state: &[f64],
-    modes: &[u16],
-    i: usize,
-    j: usize,
-    work: &mut [f64],
-) -> Result<f64, Refusal>
-    ensures answer { told result ≡ z_correlation_of n state.now modes.now i j work.old }
-    ensures work { work.new ≡ z_correlation_work n state.now modes.now i j work.old }
-{
-    let qubits = [i, j];
-    expectation_z_product(n, state, modes, &qubits, work)
+    let among = mark_odd(checked, qubits, &mut odd)?;
+    product_marked(checked, &odd, among, work)
 }

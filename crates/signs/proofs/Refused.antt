@@ -17,7 +17,7 @@ use Rattle.signs.specs.Paulis.{plus, minus, float}
 use Rattle.signs.specs.Circuits.{BlockOp, Within}
 use Rattle.signs.specs.Signs.{Engine, run_by, Right, AlwaysRight}
 use Rattle.signs.specs.Engines.{own_engine, no_turn, own_turn, no_settling, next_turn}
-use Rattle.signs.proofs.Signs.{signs}
+use Rattle.signs.proofs.Signs.{signs, right-z}
 use Rattle.signs.proofs.Values.{plus≢minus, float_one}
 use Rattle.signs.proofs.Gates.{X, XI, R, map₁, map}
 use Rattle.signs.proofs.Rows.{between, in_front, behind, twice, alone0, lower, Says, say, Answers, fit-between, fit-alone0, fit-lower}
@@ -66,7 +66,7 @@ no-turn-unseen = (refl, refl, refl, refl)
 -- ---- and so they are refused
 
 wrong : (e : Engine) (xs : List BlockOp) (k : ℕ) → Within 3 xs → k < 3 → Says xs k minus → Answers e xs k plus → AlwaysRight e → ⊥
-wrong e xs k within l s a right = plus≢minus (float_one plus minus (sym a ∙ (right 3 xs within).z k l ∙ ap float s))
+wrong e xs k within l s a right = plus≢minus (float_one plus minus (sym a ∙ right-z 3 xs (run_by e xs vacuum) (right 3 xs within) k l ∙ ap float s))
 
 pub refused : ¬ AlwaysRight no_turn × ¬ AlwaysRight own_turn × ¬ AlwaysRight no_settling × ¬ AlwaysRight next_turn
 refused = (

@@ -10,14 +10,13 @@ use lib.Dec.{lit<}
 use lib.ListN.{get_or}
 use Rattle.laws.specs.Zeros.{+0, +1, nz}
 use Rattle.local.specs.State.{vacuum, get}
-use Rattle.state.specs.Calls.{z_of}
 use Rattle.state.specs.Operation.{effect, Fits}
-use Rattle.queries.specs.Products.{product_of}
+use Rattle.queries.specs.Products.{z_of, product_of}
 use Rattle.signs.specs.Paulis.{Value, nought, plus, minus, float, phases, still, expectation}
 use Rattle.signs.specs.Majoranas.{gamma, paired, zs, DistinctModes}
 use Rattle.signs.specs.Circuits.{BlockOp, interaction, pulled, Within}
 use Rattle.signs.specs.Signs.{Engine, run_by}
-use Rattle.signs.proofs.Signs.{signs}
+use Rattle.signs.proofs.Signs.{signs, right-z}
 use Rattle.signs.proofs.Gates.{X, XI, R, x_block₁, x_block, r_block, block_of₁, block_of}
 
 -- ---- the circuits
@@ -62,7 +61,7 @@ abbrev pub Answers : Engine → List BlockOp → ℕ → Value → Type 0
 Answers e xs k v = nz (z_of (get (run_by e xs vacuum)) k) ≡ float v
 
 answer : (xs : List BlockOp) (k : ℕ) (v : Value) → Within 3 xs → k < 3 → Says xs k v → Answers effect xs k v
-answer xs k v within l e = (signs 3 xs within).z k l ∙ ap float e
+answer xs k v within l e = right-z 3 xs (run_by effect xs vacuum) (signs 3 xs within) k l ∙ ap float e
 
 -- all modes are below three
 pub fit-between : Within 3 between

@@ -3,12 +3,14 @@
 use mathlib.Core.Path.{◌≡◌, refl, sym, ap, subst, ◌∙◌}
 use mathlib.Core.Bool.{true, ◌&&◌}
 use mathlib.Core.List.{List, [], ◌∷◌}
-use Prim.Native.Nat.{ℕ, ◌+◌, ◌*◌, ◌<◌}
+use Prim.Native.Nat.{ℕ, zero, suc, ◌+◌, ◌*◌, ◌<◌}
 use native.Mathlib.Omega.{arith}
 use lib.Dec.{leb}
-use lib.ListN.{length}
-use lib.Ieee.{Float}
+use lib.ListN.{length, get_or}
+use lib.Ieee.{Float, binary64}
+use lib.Ieee.Fits.{mul-fits}
 use Rattle.laws.specs.Zeros.{nz}
+use Rattle.laws.proofs.Zeros.{nz-nz}
 use Rattle.laws.specs.Bounds.{max_qubits}
 use Rattle.local.specs.Bounds.{state_places}
 use Rattle.local.specs.State.{State, state_at, stored, vacuum, get}
@@ -16,29 +18,45 @@ use Rattle.local.proofs.Stored.{stored_is}
 use Rattle.state.specs.Bounds.{dim_of}
 use Rattle.state.specs.Modes.{is_permutation}
 use Rattle.state.specs.Questions.{state_ok}
-use Rattle.state.specs.Calls.{z_of, decoded_state, apply_state}
+use Rattle.state.specs.Calls.{decoded_state, apply_state}
 use Rattle.state.specs.Operation.{decode_of, effect, applied}
 use Rattle.std.proofs.Common.{Some}
 use Rattle.state.proofs.Questions.{asked}
+use Rattle.queries.specs.Products.{z_of, restricted, product_of}
+use Rattle.queries.proofs.One.{pfaffian-two}
 use Rattle.signs.specs.Paulis.{float, expectation}
-use Rattle.signs.specs.Majoranas.{gamma, paired, zs}
+use Rattle.signs.specs.Majoranas.{gamma, paired, zs, DistinctModes}
 use Rattle.signs.specs.Circuits.{BlockOp, operation, pulled, Within}
 use Rattle.signs.specs.Signs.{run_by, applied_all, Right, AlwaysRight, RightInSlices, StandIn, called, RightByCalls}
 use Rattle.signs.proofs.Runs.{pulled-paired, run_holds, slice-holds}
 use Rattle.signs.proofs.Steps.{Holds, get-is}
 use Rattle.signs.proofs.ZProducts.{z-product}
-use Rattle.signs.proofs.Parities.{z-paired}
 
 reads : (n : ℕ) (xs : List BlockOp) (t : State) → Within n xs → Holds n t (λ a. pulled xs (gamma a)) → Right n xs t
-reads n xs t within holds = record { covariance = covariance; z = z; product = λ js modes. z-product n xs within js modes t holds }
+reads n xs t within holds = record { covariance = covariance; product = λ js modes. z-product n xs within js modes t holds }
   where
     covariance : (r c : ℕ) → r < 2 * n → c < 2 * n → nz (get t r c) ≡ float (expectation n (pulled xs (paired n (gamma r) (gamma c))))
     covariance r c hr hc =
         get-is n t (λ a. pulled xs (gamma a)) holds r c hr hc
         ∙ ap (λ s. float (expectation n s)) (sym (pulled-paired n xs within (gamma r) (gamma c)))
 
-    z : (k : ℕ) → k < n → nz (z_of (get t) k) ≡ float (expectation n (pulled xs (zs (k ∷ []))))
-    z k l = covariance (2 * k) (2 * k + 1) (omega arith) (omega arith) ∙ ap (λ s. float (expectation n (pulled xs s))) (z-paired n k l)
+-- Z of one mode as the covariance has it: the product of one, by the law of one qubit
+pub right-z : (n : ℕ) (xs : List BlockOp) (t : State) → Right n xs t → (k : ℕ) → k < n
+    → nz (z_of (get t) k) ≡ float (expectation n (pulled xs (zs (k ∷ []))))
+unfolding product_of
+right-z n xs t right k l =
+    sym (nz-nz (z_of (get t) k)) ∙ ap nz (sym (pfaffian-two (restricted (get t) (k ∷ [])) (mul-fits binary64 _ _) ∙ ap (λ i. nz (get t i (2 * k + 1))) even))
+    ∙ right.product (k ∷ []) alone
+  where
+    even : 2 * k + 0 ≡ 2 * k
+    even = omega arith
+
+    below : (i : ℕ) → i < 1 → get_or (k ∷ []) i 0 < n
+    below zero h = l
+    below (suc i) h = absurd (omega arith)
+
+    alone : DistinctModes n (k ∷ [])
+    alone = record { below = below; different = λ i j h g e. omega arith }
 
 pub signs : AlwaysRight effect
 signs n xs within = reads n xs (run_by effect xs vacuum) within (run_holds n xs within)

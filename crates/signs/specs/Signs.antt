@@ -11,7 +11,7 @@ use Rattle.local.specs.State.{State, state_at, stored, vacuum, get}
 use Rattle.state.specs.Bounds.{dim_of}
 use Rattle.state.specs.Operation.{applied, decode_of}
 use Rattle.state.specs.Questions.{state_ok}
-use Rattle.state.specs.Calls.{z_of, apply_state}
+use Rattle.state.specs.Calls.{apply_state}
 use Rattle.state.specs.declared.operation.Operation.{Operation}
 use Rattle.queries.specs.Products.{product_of}
 use Rattle.signs.specs.Paulis.{float, expectation}
@@ -31,9 +31,7 @@ run_by e (x ∷ xs) t = run_by e xs (e (operation x) t)
 pub record Right (n : ℕ) (xs : List BlockOp) (t : State) : Type 0 where
   -- every entry of the covariance: -i times two Majorana operators
   pub covariance : (r c : ℕ) → r < 2 * n → c < 2 * n → nz (get t r c) ≡ float (expectation n (pulled xs (paired n (gamma r) (gamma c))))
-  -- Z of every mode, which is what `expectation_z` reads
-  pub z : (k : ℕ) → k < n → nz (z_of (get t) k) ≡ float (expectation n (pulled xs (zs (k ∷ []))))
-  -- the Z product of any different modes, which is what the other products read
+  -- the Z product of any different modes, which is what a product query reads: of one mode, its Z
   pub product : (js : List ℕ) → DistinctModes n js → nz (product_of (get t) js) ≡ float (expectation n (pulled xs (zs js)))
 
 -- THE STATEMENT: for every number of modes and every circuit on them

@@ -4,6 +4,7 @@ pub mod Wholes
 pub mod Operations
 pub mod Permutations
 pub mod Inverse
+pub mod Counted
 mod Words
 mod Marks
 pub mod Questions

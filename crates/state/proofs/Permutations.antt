@@ -77,7 +77,7 @@ module _ (n : ℕ) (l : List ℕ) (p : is_permutation n l ≡ true) where
   unfolding is_permutation
   table-long = leb-true n (length l) (and_parts (leb n (length l)) (all_below (mode_ok n l) n) p).0
 
-  ok : (q : ℕ) → q < n → mode_ok n l q ≡ true
+  pub ok : (q : ℕ) → q < n → mode_ok n l q ≡ true
   unfolding is_permutation
   ok q h = all-each (mode_ok n l) n q (and_parts (leb n (length l)) (all_below (mode_ok n l) n) p).1 h
 

@@ -8,10 +8,11 @@ ghost use Rattle.laws.specs.Tables.{mode_at};
 ghost use Rattle.local.specs.State.{state_at, get};
 ghost use Rattle.state.specs.Bounds.{dim_of};
 ghost use Rattle.state.specs.Questions.{state_ok};
+ghost use Rattle.state.specs.Parts.{HasEntry};
 
 use super::answer::Refusal;
 use super::check::{check_state, mode_at};
-use super::expectation::covariance;
+use real::entry;
 
 // The covariance of n qubits with its postponed signs, and the mode table.
 #[derive(Clone, Copy)]
@@ -22,6 +23,15 @@ pub struct Checked<'a> {
     ghost few: { n ≤ max_qubits },
     ghost room: { state_places (dim_of n) ≤ length state.now },
     ghost permutation: { is_permutation n modes.now ≡ true },
+}
+
+// 001's `get`.
+fn covariance(state: &[f64], dim: usize, r: usize, c: usize) -> f64
+    requires { HasEntry state.now dim r c }
+    ensures { result ≡ get (state_at dim state.now) r c }
+{
+    let x = entry(state, dim, r, c);
+    x * state[dim * dim + r] * state[dim * dim + c]
 }
 
 impl<'a> Checked<'a> {

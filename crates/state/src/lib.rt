@@ -9,7 +9,6 @@ mod answer; // why a call is refused
 mod application; // an operation applied to the state
 mod check; // question 16
 mod checked; // a state that passed it
-mod expectation; // an entry of the covariance, and Z of one qubit
 mod operation; // operations, decoded from their places
 mod told; // answers as plain numbers
 pub mod vacuum; // the first state: for the crates above, like those named last
@@ -17,7 +16,6 @@ pub mod vacuum; // the first state: for the crates above, like those named last
 // for users
 pub use answer::Refusal;
 pub use application::apply;
-pub use expectation::expectation_z;
 pub use told::Told;
 // for the crates above, which meet what they require
 pub use application::apply_places;

@@ -1,5 +1,5 @@
 // Queries put to a state. A query is a tag, the number of words that follow, what is asked, the length of work and how many of its places are zero
-// after the call (not of Z), the answer: number, place, value; then a sample's output. Work and output are 7 everywhere before a call.
+// after the call, the answer: number, place, value; then a sample's output. Work and output are 7 everywhere before a call.
 use laws::MAX_QUBITS;
 use state::Told;
 use stored::records::numbered;
@@ -29,8 +29,6 @@ pub struct Widths {
 
 #[derive(Clone, Copy)]
 pub enum Query {
-    Z,
-    Zz,
     Product,
     Marginal,
     Probability,
@@ -39,8 +37,6 @@ pub enum Query {
 
 // Each query with its name, in the order of their tags, the first of which is 4.
 pub const QUERIES: [(Query, &str); Query::COUNT] = [
-    (Query::Z, "expectation_z"),
-    (Query::Zz, "z_correlation"),
     (Query::Product, "expectation_z_product"),
     (Query::Marginal, "marginal_probability"),
     (Query::Probability, "probability"),
@@ -48,7 +44,7 @@ pub const QUERIES: [(Query, &str); Query::COUNT] = [
 ];
 
 impl Query {
-    pub const COUNT: usize = 6;
+    pub const COUNT: usize = 4;
 
     pub fn of(tag: u64) -> Option<Query> {
         let (query, _) = numbered(&QUERIES, 4, tag)?;
@@ -58,8 +54,6 @@ impl Query {
     // Whether the answer and what is left in work agree; nothing where the query cannot be read.
     pub fn agrees<W: Words>(self, state: State, widths: Widths, words: &mut W) -> Option<bool> {
         match self {
-            Query::Z => z(state, words),
-            Query::Zz => zz(state, words),
             Query::Product => product(state, widths, words),
             Query::Marginal => marginal(state, widths, words),
             Query::Probability => probability(state, words),
@@ -93,20 +87,6 @@ fn worked<W: Words, F: FnOnce(&mut [f64]) -> Told>(words: &mut W, ask: F) -> Opt
     let mut work = [7.0; stored::WORK];
     let answer = ask(work.get_mut(..length)?);
     Some(told(answer, words) && is_cleared(&work, zeros, 7.0))
-}
-
-fn z<W: Words>(state: State, words: &mut W) -> Option<bool> {
-    let q = size(words)?;
-    let answer = state::expectation_z(state.n, state.entries, state.modes, q);
-    Some(told(state::Told::from(answer), words))
-}
-
-fn zz<W: Words>(state: State, words: &mut W) -> Option<bool> {
-    let a = size(words)?;
-    let b = size(words)?;
-    worked(words, |work| {
-        state::Told::from(queries::z_correlation(state.n, state.entries, state.modes, a, b, work))
-    })
 }
 
 fn product<W: Words>(state: State, widths: Widths, words: &mut W) -> Option<bool> {

@@ -1,5 +1,5 @@
 -- The printing program: the text of a tape. Definitions only. A public promise rests on this.
-use Rattle.std.specs.Prelude.{Bool, false, cond, ◌||◌, List, ◌++◌, ℕ, ◌*◌, ltb, length, replicate, Float}
+use Rattle.std.specs.Prelude.{Bool, false, cond, ◌||◌, List, [], ◌∷◌, ◌++◌, ℕ, ◌*◌, ltb, length, replicate, Float}
 use Rattle.laws.specs.Zeros.{+0}
 use Rattle.laws.specs.Bounds.{op_places}
 use Rattle.tape.specs.Parse.{Parsed, Content, refused, accepted, parse}
@@ -10,7 +10,7 @@ use Rattle.detect.specs.Questions.{Asked, early, late, passed}
 use Rattle.local.specs.Bounds.{state_places}
 use Rattle.local.specs.State.{stored}
 use Rattle.state.specs.Bounds.{dim_of}
-use Rattle.state.specs.Calls.{expectation_z_of}
+use Rattle.queries.specs.Calls.{expectation_z_product_of}
 use Rattle.evolve.specs.Evolve.{evolved}
 use Rattle.gaussian.specs.Run.{asked_report}
 use Rattle.text.specs.Bounds.{max_tape, printed_gates, printed_qubits}
@@ -38,9 +38,13 @@ run_of (accepted h c) = asked_report (op_places * length (program_of h c.gates))
 abbrev pub state_of : Header → Content → List Float
 state_of h c = stored (dim_of h.n) (evolved h.n (program_of h c.gates)) (replicate (state_places (dim_of printed_qubits)) +0)
 
--- Z of qubit q: what `expectation_z` answers of a state
+-- work of one qubit
+abbrev pub z_work : List Float
+z_work = replicate 4 +0
+
+-- Z of qubit q: what the product over it alone answers of a state
 abbrev pub z_at : ℕ → List Float → List ℕ → ℕ → Float
-z_at n state modes q = (expectation_z_of n state modes q).value
+z_at n state modes q = (expectation_z_product_of n state modes (q ∷ []) z_work).value
 
 -- ---- the text
 

@@ -10,7 +10,7 @@ use crate::words::{MAX_TEXT, Text};
 use detect::Report;
 use gaussian::run;
 use laws::OP_PLACES;
-use state::expectation_z;
+use queries::expectation_z_product;
 use tape::{Contents, check_tape};
 use work::{RECORD_FLOATS, RECORD_MARKS};
 
@@ -29,6 +29,8 @@ const MARKS: usize = RECORD_MARKS * RECORDS;
 
 const PLACES: usize = OP_PLACES * 3 * RECORDS;
 
+const Z_WORK: usize = 4; // question 20 of one qubit
+
 const STATE: usize = 4 * PRINTED_QUBITS * PRINTED_QUBITS + 2 * PRINTED_QUBITS;
 
 // Whether the tape has too many bytes or, passing 1 to 8, too many gates or qubits.
@@ -40,11 +42,12 @@ fn is_too_big(tape: &[u8]) -> bool
     tape.len() > MAX_TAPE || check_tape(tape).is_ok_and(too_many)
 }
 
-// Z of qubit q, as the query answers it.
+// Z of qubit q, as the query answers it. One mode is left, so that work has four places.
 fn z_of(n: usize, state: &[f64], modes: &[u16], q: usize) -> f64
     ensures { result ≡ z_at n state.now modes.now q }
 {
-    expectation_z(n, state, modes, q).unwrap_or(0.0)
+    let mut work = [0.0; Z_WORK];
+    expectation_z_product(n, state, modes, &[q], &mut work).unwrap_or(0.0)
 }
 
 // The q lines of a report, from the state.

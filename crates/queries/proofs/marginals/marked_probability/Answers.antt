@@ -8,7 +8,7 @@ use Rattle.queries.specs.Lists.{noted_modes}
 use Rattle.queries.specs.Marginals.{sign_of, asked_matrix, at_least_zero_of, marked_of}
 use Rattle.queries.specs.Calls.{covariance_of, worked, worked_work}
 use Rattle.queries.specs.Inner.{mark_at}
-use Rattle.queries.proofs.Marking.{passing-below, is_asked}
+use Rattle.queries.proofs.Marking.{spans-all, passing-below, is_asked}
 use Rattle.queries.proofs.Leaving.{value-left, work-left, work-fits, work-small}
 use Rattle.queries.proofs.marginals.marked_probability.Goals as goal
 
@@ -20,10 +20,11 @@ unfolding told refusal worked worked_work
 returns-then-work-dim c =
     let k = c.list_modes-list in
     let count = c.len-dim.result in
+    let n = c.args.checked.n in
     let mark = mark_at c.args.asked.now in
     let p : ℕ → Bool = λ k. ltb 0 (mark k) in
     let list = k.result.items in
-    let same = k.ensures.modes p (λ k b h g. let e = is_asked (get_or c.args.asked.now k None) in search rules) in
+    let same = k.ensures.modes n p (spans-all n p) (λ k b h g. let e = is_asked (get_or c.args.asked.now k None) in search rules) in
     let long = sym c.len-dim.ensures.value in
     let small = work-small _ count list long same c.args.work.now c.if-work-dim.true in
     record { answer = rw small; work = rw small }
@@ -35,7 +36,7 @@ ask-requires c =
     let mark = mark_at c.args.asked.now in
     let p : ℕ → Bool = λ k. ltb 0 (mark k) in
     let list = c.as_slice.result.now in
-    let same = c.as_slice.ensures.value ∙ k.ensures.modes p (λ k b h g. let e = is_asked (get_or c.args.asked.now k None) in search rules) in
+    let same = c.as_slice.ensures.value ∙ k.ensures.modes n p (spans-all n p) (λ k b h g. let e = is_asked (get_or c.args.asked.now k None) in search rules) in
     let long = ap length c.as_slice.ensures.value ∙ sym c.len-dim.ensures.value in
     record {
       below = passing-below n n p list (le_refl _) same;
@@ -52,7 +53,7 @@ returns c =
     let mark = mark_at c.args.asked.now in
     let p : ℕ → Bool = λ k. ltb 0 (mark k) in
     let list = c.as_slice.result.now in
-    let same = c.as_slice.ensures.value ∙ k.ensures.modes p (λ k b h g. let e = is_asked (get_or c.args.asked.now k None) in search rules) in
+    let same = c.as_slice.ensures.value ∙ k.ensures.modes n p (spans-all n p) (λ k b h g. let e = is_asked (get_or c.args.asked.now k None) in search rules) in
     let long = ap length c.as_slice.ensures.value ∙ sym c.len-dim.ensures.value in
     let l = noted_modes n mark in
     let F = asked_matrix (covariance_of n c.args.checked.state.now) mark in

@@ -17,12 +17,12 @@ returns-in_err-checked c =
 pub mark_odd-requires : goal.mark_odd-requires
 mark_odd-requires c = marked-none _ _ _ c.in_ok-checked.checked.few
 
-pub returns-in_err-mark_odd : goal.returns-in_err-mark_odd
+pub returns-in_err-among : goal.returns-in_err-among
 unfolding told refusal expectation_z_product_of expectation_z_product_work
-returns-in_err-mark_odd c =
-    let p = err_from_is_err_and c.from_residual-in_err-mark_odd.result c.from_residual-in_err-mark_odd.ensures.1 in
+returns-in_err-among c =
+    let p = err_from_is_err_and c.from_residual-in_err-among.result c.from_residual-in_err-among.ensures.1 in
     let e = c.in_ok-checked.ensures in
-    let m = rw e.1 at c.in_err-mark_odd.ensures.answer in
+    let m = rw e.1 at c.in_err-among.ensures.answer in
     record { answer = rw (p.1, p.2, m.1, e.0, lt-ltb _ _ m.0); work = rw (e.0, lt-ltb _ _ m.0) }
 
 pub returns : goal.returns
@@ -31,10 +31,10 @@ returns c =
     let a = c.args in
     let checked = c.in_ok-checked.checked in
     let e = c.in_ok-checked.ensures in
-    let m = c.in_ok-mark_odd.ensures in
+    let m = c.in_ok-among.ensures in
     let r = c.product_marked.ensures in
-    let all = rw e.1 at m.answer in
-    let left = odd-left checked.n checked.modes.now a.qubits.now _ _ m.answer m.marks in
+    let all = rw e.1 at m.answer.0 in
+    let left = odd-left checked.n checked.modes.now a.qubits.now _ _ m.answer.0 m.marks in
     let w = a.work.now in
     record {
       answer = rw (e.0, le-ltb _ _ (le_of_eq (sym all)))

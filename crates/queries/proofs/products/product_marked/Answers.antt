@@ -18,9 +18,10 @@ unfolding told refusal worked worked_work
 returns-then-work-dim c =
     let k = c.list_modes-list in
     let count = c.len-dim.result in
+    let n = c.args.checked.n in
     let p : ℕ → Bool = λ k. get_or c.args.odd.now k false in
     let list = k.result.items in
-    let same = k.ensures.modes p (λ k b h g. search rules) in
+    let same = k.ensures.modes n p c.requires.among (λ k b h g. search rules) in
     let long = sym c.len-dim.ensures.value in
     let small = work-small _ count list long same c.args.work.now c.if-work-dim.true in
     record { answer = rw small; work = rw small }
@@ -28,22 +29,24 @@ returns-then-work-dim c =
 pub restrict-requires : goal.restrict-requires
 restrict-requires c =
     let k = c.list_modes-list in
+    let n = c.args.checked.n in
     let p : ℕ → Bool = λ k. get_or c.args.odd.now k false in
     let list = c.as_slice.result.now in
-    let same = c.as_slice.ensures.value ∙ k.ensures.modes p (λ k b h g. search rules) in
+    let same = c.as_slice.ensures.value ∙ k.ensures.modes n p c.requires.among (λ k b h g. search rules) in
     let long = ap length c.as_slice.ensures.value ∙ sym c.len-dim.ensures.value in
-    record { below = passing-below c.args.checked.n c.args.checked.n p list (le_refl _) same; rows = rw long refl }
+    record { below = passing-below n n p list (le_refl _) same; rows = rw long refl }
 
 pub returns : goal.returns
 unfolding told worked worked_work product_of
 returns c =
     let k = c.list_modes-list in
     let count = c.len-dim.result in
+    let n = c.args.checked.n in
     let p : ℕ → Bool = λ k. get_or c.args.odd.now k false in
     let list = c.as_slice.result.now in
-    let same = c.as_slice.ensures.value ∙ k.ensures.modes p (λ k b h g. search rules) in
+    let same = c.as_slice.ensures.value ∙ k.ensures.modes n p c.requires.among (λ k b h g. search rules) in
     let long = ap length c.as_slice.ensures.value ∙ sym c.len-dim.ensures.value in
-    let l = passing p c.args.checked.n in
+    let l = passing p n in
     let F = restricted (covariance_of c.args.checked.n c.args.checked.state.now) in
     let w = c.args.work.now in
     let room = c.if-work-dim.false in

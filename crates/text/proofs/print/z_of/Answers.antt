@@ -21,4 +21,4 @@ value (Err (BadDraw p)) = refl
 
 pub returns : goal.returns
 unfolding of_bits
-returns c = c.unwrap_or.ensures ∙ value _ ∙ ap (λ t. t.value) c.expectation_z.ensures
+returns c = c.unwrap_or.ensures ∙ value _ ∙ ap (λ t. t.value) c.expectation_z_product.ensures.answer
