@@ -9,4 +9,7 @@ pub mod Tables
 pub mod Tapes
 pub mod Identity
 pub mod Plain
+pub mod Left
+pub mod Stops
+pub mod Questions
 pub mod Answering

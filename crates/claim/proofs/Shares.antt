@@ -1,6 +1,6 @@
 -- Where no block is bad, no item's share is; and then a matchgate's modes are neighbours. Assumes nothing.
-use mathlib.Core.Path.{◌≡◌, refl}
-use mathlib.Core.Bool.{Bool, true, false, cond}
+use mathlib.Core.Path.{◌≡◌}
+use mathlib.Core.Bool.{true}
 use mathlib.Core.List.{List, [], ◌∷◌}
 use Prim.Native.Nat.{ℕ, ◌+◌}
 use native.Mathlib.Omega.{arith}
@@ -8,11 +8,9 @@ use lib.Ieee.{Float}
 use Rattle.evolve.proofs.Programs.{match-beside}
 use Rattle.laws.specs.Lists.{All}
 use Rattle.gate.specs.declared.matrix.Mat4.{Mat4}
-use Rattle.majorana.specs.Majorana.{majorana_map2_of}
 use Rattle.order.specs.Arrangement.{beside_of}
 use Rattle.resolve.specs.Items.{Item, matchgate, neither}
-use Rattle.detect.specs.Emit.{oriented_of}
-use Rattle.detect.specs.Counts.{apart, adjacent_share, match_share, two_share, plus_of, share_of, counted_onto, counts_of}
+use Rattle.detect.specs.Counts.{two_share, plus_of, share_of, counted_onto, counts_of}
 
 -- the item's share has nothing bad
 abbrev pub Free : Float → (ℕ → ℕ) → Item → Type 0

@@ -1,20 +1,18 @@
 -- The mode table of an accepted tape passes question 16: "the mode table's first n a permutation". Assumes nothing.
-use mathlib.Core.Path.{◌≡◌, refl, sym, ap, ◌∙◌}
-use mathlib.Core.Bool.{true, not}
+use mathlib.Core.Path.{◌≡◌, refl, sym, ◌∙◌}
+use mathlib.Core.Bool.{true}
 use mathlib.Core.List.{List}
 use Prim.Native.Nat.{ℕ, ◌≤◌, ◌<◌}
 use native.Mathlib.Omega.{arith}
-use lib.Dec.{eqb}
 use lib.ListN.{length}
-use borrow.Author.Tests.{ne_eqb, lt-ltb, le-leb}
+use borrow.Author.Tests.{le-leb}
 use Rattle.state.proofs.Permutations.{modes-fit}
 use Rattle.laws.specs.Tables.{mode_at}
 use Rattle.laws.specs.Bounds.{max_qubits}
-use Rattle.laws.proofs.Tests.{all_of}
 use Rattle.tape.specs.Parse.{Content, accepted, parse}
 use Rattle.tape.specs.declared.header.Header.{Header}
 use Rattle.tape.specs.declared.gates.Gate.{Gate}
-use Rattle.state.specs.Modes.{mode_ok, is_permutation}
+use Rattle.state.specs.Modes.{is_permutation}
 use Rattle.detect.specs.Report.{report_of}
 use Rattle.detect.specs.Compile.{mode_of_qubit, reported_of}
 use Rattle.detect.proofs.Entries.{length-table}

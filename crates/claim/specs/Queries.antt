@@ -1,23 +1,14 @@
 -- The queries of demand 3, "the calls just listed", each with what it asks and is lent; what the engine answers to a list of them, and what the bit
 -- register answers. Definitions only. A public promise rests on this.
-use Rattle.std.specs.Prelude.{◌≡◌, Bool, true, not, cond, ◌&&◌, List, [], ◌∷◌, ℕ, ◌*◌, ◌≤◌, ◌<◌, leb, ltb, get_or, length, Float}
+use Rattle.std.specs.Prelude.{◌≡◌, Bool, true, List, [], ◌∷◌, ℕ, ◌≤◌, ◌<◌, length, Float}
 use Rattle.laws.specs.Zeros.{+0}
 use Rattle.laws.specs.Tables.{mode_at}
-use Rattle.state.specs.Bounds.{dim_of}
 use Rattle.state.specs.Answers.{Told, accepted}
-use Rattle.state.specs.Calls.{expectation_z_of}
-use Rattle.queries.specs.Lists.{bad_place, odd_modes, bits_ok, stop_place, asked, noted_modes}
-use Rattle.queries.specs.Products.{dim_left}
-use Rattle.queries.specs.Basis.{basis_mark}
-use Rattle.queries.specs.Samples.{shots_ok, bad_draw_of}
-use Rattle.queries.specs.Calls.{work_ok, expectation_z_product_of, z_correlation_of, marginal_probability_of, probability_of, sample_of, sample_out}
+use Rattle.queries.specs.Calls.{expectation_z_product_of, marginal_probability_of, probability_of, sample_of, sample_out}
 use Rattle.basis.specs.Answers.{register_product, register_marginal, register_probability, register_shots}
+use Rattle.claim.specs.Questions.{product_passes, marginal_passes, probability_passes, sample_passes}
 
 pub data Query : Type 0 where
-  -- `expectation_z`: a qubit
-  expectation : ℕ → Query
-  -- `z_correlation`: two qubits; work
-  correlation : ℕ → ℕ → List Float → Query
   -- `expectation_z_product`: qubits; work
   product : List ℕ → List Float → Query
   -- `marginal_probability`: qubits, bits; work
@@ -39,8 +30,6 @@ number x = record { told = x; out = [] }
 
 -- on the state of n qubits in the slice s, with this mode table
 abbrev pub answer : ℕ → List Float → List ℕ → Query → Given
-answer n s modes (expectation q) = number (expectation_z_of n s modes q)
-answer n s modes (correlation i j w) = number (z_correlation_of n s modes i j w)
 answer n s modes (product qs w) = number (expectation_z_product_of n s modes qs w)
 answer n s modes (marginal qs bits w) = number (marginal_probability_of n s modes qs bits w)
 answer n s modes (probability low high w) = number (probability_of n s modes low high w)
@@ -63,50 +52,32 @@ pub record Begins (n : ℕ) (table modes : List ℕ) : Type 0 where
 -- ---- the bit register, with its n and its last bits
 
 abbrev pub register_answer : ℕ → (ℕ → Bool) → Query → Given
-register_answer n bits (expectation q) = number (accepted (register_product bits (q ∷ [])))
-register_answer n bits (correlation i j w) = number (accepted (register_product bits (i ∷ j ∷ [])))
 register_answer n bits (product qs w) = number (accepted (register_product bits qs))
 register_answer n bits (marginal qs xs w) = number (accepted (register_marginal n bits qs xs))
 register_answer n bits (probability low high w) = number (accepted (register_probability n bits low high))
 register_answer n bits (sample shots draws w out) = record { told = accepted +0; out = register_shots n bits shots out }
 
--- ---- a query's own questions: 18 to 22, of what it asks and is lent. (16 is the state's.)
-
--- 19 and 20, of a list of qubits
-abbrev pub product_passes : ℕ → List ℕ → List ℕ → List Float → Bool
-product_passes n modes qs w = not (ltb (bad_place n qs) (length qs)) && work_ok (dim_left (odd_modes n modes qs)) w
-
--- 19 where the list stops at a place, else 20: "a marginal stops with 0.0 at the first contradiction, later qubits and 20 unread"
-abbrev pub list_passes : ℕ → List ℕ → List ℕ → List ℕ → List Float → Bool
-list_passes n modes qs xs w =
-    let place = stop_place n modes qs xs in
-    cond (ltb place (length qs)) (not (leb n (get_or qs place 0))) (work_ok (dim_left (noted_modes n (asked modes qs xs))) w)
-
--- 21 and 22
-abbrev pub shots_pass : ℕ → ℕ → List Float → List ℕ → Bool
-shots_pass n shots draws out = shots_ok n shots draws out && not (ltb (bad_draw_of (n * shots) draws) (n * shots))
+-- ---- a query's own questions: 18 to 22
 
 -- each has yes for an answer
-abbrev pub passes : ℕ → List ℕ → Query → Bool
-passes n modes (expectation q) = ltb q n
-passes n modes (correlation i j w) = product_passes n modes (i ∷ j ∷ []) w
-passes n modes (product qs w) = product_passes n modes qs w
-passes n modes (marginal qs xs w) = bits_ok qs xs && list_passes n modes qs xs w
-passes n modes (probability low high w) = work_ok (dim_left (noted_modes n (basis_mark n modes low high))) w
-passes n modes (sample shots draws w out) = work_ok (dim_of n) w && shots_pass n shots draws out
+abbrev pub passes : ℕ → Query → Bool
+passes n (product qs w) = product_passes n qs w
+passes n (marginal qs xs w) = marginal_passes n qs xs w
+passes n (probability low high w) = probability_passes n w
+passes n (sample shots draws w out) = sample_passes n shots draws w out
 
 -- ---- beside each other
 
--- what is given to a query, on a state with this mode table, where the register has these bits
-pub record RightAnswer (n : ℕ) (modes : List ℕ) (bits : ℕ → Bool) (q : Query) (g : Given) : Type 0 where
+-- what is given to a query, on a state of n qubits, where the register has these bits
+pub record RightAnswer (n : ℕ) (bits : ℕ → Bool) (q : Query) (g : Given) : Type 0 where
   -- "refused only where one of its own questions has no for an answer"
-  pub answered : passes n modes q ≡ true → g.told.number ≡ 0
+  pub answered : passes n q ≡ true → g.told.number ≡ 0
   -- an answer, which gives no number, is the register's
   pub right : g.told.number ≡ 0 → g ≡ register_answer n bits q
 
 -- something is given to each query of the list, and it is right
-abbrev pub RightAnswers : ℕ → List ℕ → (ℕ → Bool) → List Query → List Given → Type 0
-RightAnswers n modes bits [] [] = Unit {0}
-RightAnswers n modes bits [] (g ∷ gs) = ⊥
-RightAnswers n modes bits (q ∷ qs) [] = ⊥
-RightAnswers n modes bits (q ∷ qs) (g ∷ gs) = RightAnswer n modes bits q g × RightAnswers n modes bits qs gs
+abbrev pub RightAnswers : ℕ → (ℕ → Bool) → List Query → List Given → Type 0
+RightAnswers n bits [] [] = Unit {0}
+RightAnswers n bits [] (g ∷ gs) = ⊥
+RightAnswers n bits (q ∷ qs) [] = ⊥
+RightAnswers n bits (q ∷ qs) (g ∷ gs) = RightAnswer n bits q g × RightAnswers n bits qs gs

@@ -1,9 +1,10 @@
 -- The register claim holds of the engine's own run and answers. It is false of an engine that holds the vacuum for every tape, of one that applies the first
--- operation only, of one that gives one parity for all, and of one that answers 12 always: the witness is a tape with X on 0 and X on 1. What the first two
--- leave is the state of another register tape, without gates or with X on 0 alone, whose answers are its own register's. Assumes nothing.
+-- operation only, of one that gives one parity for all, of one that answers 12 always, and of one whose question 20 always says no: the witness is a tape with
+-- X on 0 and X on 1. What the first two leave is the state of another register tape, without gates or with X on 0 alone, whose answers are its own register's.
+-- Assumes nothing.
 use mathlib.Core.Path.{◌≡◌, refl, sym, ap, ◌∙◌, subst}
-use mathlib.Core.Logic.{◌⊎◌, inl, inr}
-use mathlib.Core.Bool.{true, false≢true}
+use mathlib.Core.Logic.{◌⊎◌, inl, inr, ◌≢◌}
+use mathlib.Core.Bool.{Bool, true, false, cond, false≢true}
 use mathlib.Core.List.Memᴰ
 use mathlib.Core.List.{List, [], ◌∷◌, Memᴰ}
 use Prim.Native.Nat.{ℕ}
@@ -12,7 +13,7 @@ use lib.ListN.{length, take, replicate}
 use lib.Ieee.{Float, neg, lt, le, of_bits}
 use borrow.Author.Tests.{eq-eqb}
 use Rattle.laws.specs.Views.{from, up_from}
-use Rattle.laws.specs.Tests.{all_below}
+use Rattle.laws.specs.Tests.{all_below, count}
 use Rattle.laws.specs.Zeros.{+0, +1}
 use Rattle.num.specs.Bits.{le16, le32, le64}
 use Rattle.named.specs.Table.{gate_x, matrix1q_of}
@@ -31,7 +32,7 @@ use Rattle.resolve.specs.Resolve.{resolved, with_rests, start_of}
 use Rattle.resolve.specs.Whole.{resolved_of, fuse_of}
 use Rattle.order.specs.Arrangement.{find}
 use Rattle.order.specs.Choice.{choose_order_of}
-use Rattle.detect.specs.Answers.{number_of, done}
+use Rattle.detect.specs.Answers.{Compiled, number_of, done}
 use Rattle.detect.specs.Operation.{Operation}
 use Rattle.detect.specs.Emit.{operations_of}
 use Rattle.detect.specs.Report.{table, free_of, report_of}
@@ -39,10 +40,14 @@ use Rattle.detect.specs.Compile.{match_pairs, labels_of, items_of, order_of, mod
 use Rattle.detect.specs.Questions.{Asked, early, late, passed, answer_of}
 use Rattle.local.specs.State.{stored}
 use Rattle.state.specs.Bounds.{dim_of}
+use Rattle.state.specs.Questions.{state_ok}
+use Rattle.state.specs.Answers as Answers
+use Rattle.queries.specs.Lists.{first_from, bad_place, bits_ok, noted, stop_place}
 use Rattle.evolve.specs.Evolve.{evolved}
 use Rattle.register.specs.Register.{RegisterTape, RegisterGate, PlainGate, register_from, register_bits}
 use Rattle.basis.specs.Answers.{odd_ones, register_product}
-use Rattle.claim.specs.Queries.{expectation, Given, answer, answers, Begins, RightAnswer}
+use Rattle.claim.specs.Questions.{agree}
+use Rattle.claim.specs.Queries.{Ask, Query, product, marginal, probability, sample, Given, answer, answers, Begins, passes, RightAnswer}
 use Rattle.claim.proofs.Tables.{own-table}
 use Rattle.claim.proofs.Plain.{plain-free}
 use Rattle.claim.proofs.Answering.{tape-answers}
@@ -51,7 +56,7 @@ use Rattle.gaussian.specs.Claim.{left_by, RightRun, Suffice, RegisterClaim}
 use Rattle.gaussian.proofs.Accepted.{passed-asked}
 use Rattle.gaussian.proofs.Claim.{suffice-passes, register-claim}
 use Rattle.gaussian.proofs.Edges.{tape, x0, headed, only, x_on0, parses, PlainRegister, no-gate, one-x, plain-register}
-use Rattle.engines.specs.Engines.{Engine, Claimed, state_by, run_by, own_engine, vacuum_engine, first_engine, parity_engine, twelve_engine}
+use Rattle.engines.specs.Engines.{asked_by, never_room, no_room, is_product, is_marginal, is_probability, is_sample, Engine, Claimed, state_by, run_by, own_engine, vacuum_engine, first_engine, parity_engine, twelve_engine}
 
 -- ---- the engine
 
@@ -164,9 +169,27 @@ run-report = ap answer_of run-asked
 
 -- ---- Z of qubit 1 must be -1
 
+abbrev z1 : Query
+z1 = product (1 ∷ []) (replicate 4 +0)
+
 minus≢plus : register_product (register_bits both.gates) (1 ∷ []) ≡ +1 → ⊥
 unfolding register_bits register_from odd_ones neg lt
 minus≢plus e = false≢true (sym (ap (λ (x : Float). lt x +0) e))
+
+-- a query of each other kind
+abbrev marginal0 : Query
+marginal0 = marginal (0 ∷ []) (1 ∷ []) (replicate 4 +0)
+
+abbrev index3 : Query
+index3 = probability 3 0 (replicate 16 +0)
+
+abbrev shot : Query
+shot = sample 1 (+0 ∷ +0 ∷ []) (replicate 16 +0) (0 ∷ 0 ∷ [])
+
+-- what is lent to them suffices
+suffices : (passes 2 z1 ≡ true) × (passes 2 marginal0 ≡ true) × (passes 2 index3 ≡ true) × (passes 2 shot ≡ true)
+unfolding count all_below agree lt le
+suffices = (refl, refl, refl, refl)
 
 one-tape : {k l : Header} {c d : Content} → accepted k c ≡ accepted l d → (k ≡ l) × (c ≡ d)
 one-tape e = (cc, cc)
@@ -177,17 +200,23 @@ module _ (e : Engine) (claim : Claimed e) where
     y : RightRun e.ask x01 (e.run x01 work marks ops state)
     y = (claim x01 work marks ops state).right register number
 
-    -- the value of an answer to the query, put to the engine's own n, state and mode table
-    z-claimed : (let x = e.run x01 work marks ops state in
-        Begins 2 x.modes x.modes → (e.ask x.n x.state x.modes (expectation 1)).told.number ≡ 0
-        → (e.ask x.n x.state x.modes (expectation 1)).told.value ≡ register_product (register_bits both.gates) (1 ∷ []))
+    -- every query, put to the engine's own n, state and mode table, is answered rightly
+    claimed : (let x = e.run x01 work marks ops state in
+        Begins 2 x.modes x.modes → (q : Query) → RightAnswer 2 (register_bits both.gates) q (e.ask x.n x.state x.modes q))
     unfolding answers
-    z-claimed lent given =
+    claimed lent q =
         let same = one-tape (sym y.parsed ∙ parsed) in
         let x = e.run x01 work marks ops state in
         let own = subst (λ (k : Header). Begins k.n x.modes x.modes) (sym same.0) lent in
-        ap (λ (g : Given). g.told.value) ((y.right x.modes own (expectation 1 ∷ [])).0.right given)
-        ∙ ap (λ (c : Content). register_product (register_bits c.gates) (1 ∷ [])) same.1
+        subst (λ (k : Header). RightAnswer k.n (register_bits both.gates) q (e.ask x.n x.state x.modes q)) same.0
+        (subst (λ (c : Content). RightAnswer y.header.n (register_bits c.gates) q (e.ask x.n x.state x.modes q)) same.1
+        (y.right x.modes own (q ∷ [])).0)
+
+    -- so is Z of qubit 1
+    z-claimed : (let x = e.run x01 work marks ops state in
+        Begins 2 x.modes x.modes → (e.ask x.n x.state x.modes z1).told.number ≡ 0
+        → (e.ask x.n x.state x.modes z1).told.value ≡ register_product (register_bits both.gates) (1 ∷ []))
+    z-claimed lent given = ap (λ (g : Given). g.told.value) ((claimed lent z1).right given)
 
 -- the report's table, lent as it is
 own-lent : Begins 2 (ran x01 work marks ops state).report.modes (ran x01 work marks ops state).report.modes
@@ -202,23 +231,23 @@ module _ (f : List Operation → List Operation) (t : List ℕ) (c : Content) (e
   state-is = ap (λ x. state_by f x state) run-asked ∙ ap (λ os. stored (dim_of 2) (evolved 2 os) state) program
 
   -- what the other tape's register says
-  truth : RightAnswer 2 (reported_of h both.gates).modes (register_bits c.gates) (expectation 1)
-      (answer 2 (stored (dim_of 2) (evolved 2 (program_of h c.gates)) state) (reported_of h both.gates).modes (expectation 1))
+  truth : RightAnswer 2 (register_bits c.gates) z1
+      (answer 2 (stored (dim_of 2) (evolved 2 (program_of h c.gates)) state) (reported_of h both.gates).modes z1)
   unfolding answers state
   truth =
       (tape-answers t h c e state (omega arith) (reported_of h both.gates).modes
       (subst (λ (l : List ℕ). Begins 2 (reported_of h c.gates).modes l) modes (own-table t h c e))
-      (plain-register t h c e plain) (free t c e plain) (expectation 1 ∷ [])).0
+      (plain-register t h c e plain) (free t c e plain) (z1 ∷ [])).0
 
   answer-is : answer (ran x01 work marks ops state).report.n (state_by f (asked x01 work marks ops state) state)
-      (ran x01 work marks ops state).report.modes (expectation 1)
-      ≡ answer 2 (stored (dim_of 2) (evolved 2 (program_of h c.gates)) state) (reported_of h both.gates).modes (expectation 1)
+      (ran x01 work marks ops state).report.modes z1
+      ≡ answer 2 (stored (dim_of 2) (evolved 2 (program_of h c.gates)) state) (reported_of h both.gates).modes z1
   unfolding reported_of report_of
-  answer-is = λ z. answer (run-report z).report.n (state-is z) (run-report z).report.modes (expectation 1)
+  answer-is = λ z. answer (run-report z).report.n (state-is z) (run-report z).report.modes z1
 
   pub wrong-state : ¬ Claimed (record { run = run_by f; ask = answer })
   wrong-state claim =
-      let zero = truth.answered refl in
+      let zero = truth.answered suffices.0 in
       minus≢plus
       (sym (z-claimed (record { run = run_by f; ask = answer }) claim given-none own-lent (ap (λ (g : Given). g.told.number) answer-is ∙ zero))
       ∙ ap (λ (g : Given). g.told.value) (answer-is ∙ truth.right zero) ∙ still)
@@ -246,10 +275,40 @@ twelve claim =
     let z = (claim x01 work marks ops state).accepts h both parsed register (λ g i. (both-plain g i).1) suffice in
     omega (arith, z)
 
+-- ---- question 20 always no
+
+-- answers that leave a query out that must be answered
+pub unanswered : (a : Ask) (q : Query) → passes 2 q ≡ true → ((s : List Float) (modes : List ℕ) → (a 2 s modes q).told.number ≢ 0) → ¬ Claimed (asked_by a)
+unfolding reported_of report_of
+unanswered a q p never claim =
+    let x = run_by (λ os. os) x01 work marks ops state in
+    let n : x.n ≡ 2 = ap (λ (c : Compiled). c.report.n) run-report in
+    never x.state x.modes
+    (subst (λ (n : ℕ). (a n x.state x.modes q).told.number ≡ 0) n
+    ((claimed (asked_by a) claim (subst (λ (n : ℕ). n ≡ 0) refl given-none) own-lent q).answered p))
+
+-- to all queries, or to those of one kind
+no-room : ¬ Claimed (asked_by never_room) × ¬ Claimed (asked_by (no_room is_product)) × ¬ Claimed (asked_by (no_room is_marginal))
+    × ¬ Claimed (asked_by (no_room is_probability)) × ¬ Claimed (asked_by (no_room is_sample))
+unfolding bad_place stop_place first_from bits_ok noted all_below
+no-room = (
+  unanswered never_room z1 suffices.0 (λ s modes. never (state_ok 2 s modes)),
+  unanswered (no_room is_product) z1 suffices.0 (λ s modes. never (state_ok 2 s modes)),
+  unanswered (no_room is_marginal) marginal0 suffices.1 (λ s modes. never (state_ok 2 s modes)),
+  unanswered (no_room is_probability) index3 suffices.2 (λ s modes. never (state_ok 2 s modes)),
+  unanswered (no_room is_sample) shot suffices.3 (λ s modes. never (state_ok 2 s modes)),
+)
+  where
+    never : (t : Bool) → (cond t (Answers.refused 20 0) (Answers.refused 16 0)).number ≢ 0
+    never true e = absurd (omega (arith, e))
+    never false e = absurd (omega (arith, e))
+
 pub refused : ¬ Claimed vacuum_engine × ¬ Claimed first_engine × ¬ Claimed parity_engine × ¬ Claimed twelve_engine
+    × ¬ Claimed (asked_by never_room)
 refused = (
   wrong-state (λ os. []) (tape 2 0 128 0 []) nothing parses.0 no-gate vacuum-program tables.1 bits.0,
   wrong-state (take 1) (tape 2 0 128 0 x0) (only x_on0) parses.2 (one-x gate_x) first-program tables.0 bits.1,
   one-parity,
   twelve,
+  no-room.0,
 )

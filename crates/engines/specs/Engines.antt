@@ -1,15 +1,18 @@
--- Engines that the register claim is asked of: the engine's own run and answers, and four that are wrong in one way each. Assumes nothing.
+-- Engines that the register claim is asked of: the engine's own run and answers, and some that are wrong in one way each. Assumes nothing.
 -- A public promise rests on this.
-use Rattle.std.specs.Prelude.{List, [], ℕ, take, Float}
+use Rattle.std.specs.Prelude.{Bool, true, false, cond, List, [], ℕ, ltb, length, take, Float}
 use Rattle.laws.specs.Zeros.{+1}
 use Rattle.detect.specs.Operation.{Operation}
 use Rattle.detect.specs.Compile.{program_of}
 use Rattle.detect.specs.Questions.{Asked, early, late, passed}
 use Rattle.local.specs.State.{stored}
 use Rattle.state.specs.Bounds.{dim_of}
-use Rattle.state.specs.Answers.{accepted}
+use Rattle.state.specs.Answers.{accepted, refused}
+use Rattle.state.specs.Questions.{state_ok}
+use Rattle.queries.specs.Lists.{bad_place, bits_ok, stop_place}
+use Rattle.queries.specs.Calls.{stopped_of}
 use Rattle.evolve.specs.Evolve.{evolved}
-use Rattle.claim.specs.Queries.{expectation, correlation, product, marginal, probability, sample, Ask, number, answer}
+use Rattle.claim.specs.Queries.{Query, product, marginal, probability, sample, Ask, number, answer}
 use Rattle.gaussian.specs.Run.{asked, ran}
 use Rattle.gaussian.specs.Claim.{Left, left_by, RegisterClaim}
 
@@ -33,9 +36,13 @@ state_by f (passed h c) state = stored (dim_of h.n) (evolved h.n (f (program_of 
 abbrev pub run_by : (List Operation → List Operation) → List ℕ → List Float → List ℕ → List Float → List Float → Left
 run_by f t work marks ops state = left_by (ran t work marks ops state) (state_by f (asked t work marks ops state) state)
 
--- the engine applies the whole program
+-- the engine's run, which applies the whole program, with some answers
+abbrev pub asked_by : Ask → Engine
+asked_by ask = record { run = run_by (λ os. os); ask = ask }
+
+-- its own
 abbrev pub own_engine : Engine
-own_engine = record { run = run_by (λ os. os); ask = answer }
+own_engine = asked_by answer
 
 -- ---- wrong ones
 
@@ -49,16 +56,56 @@ first_engine = record { run = run_by (take 1); ask = answer }
 
 -- "one giving one parity for all"
 abbrev pub one_parity : Ask
-one_parity n s modes (expectation q) = number (accepted +1)
-one_parity n s modes (correlation i j w) = number (accepted +1)
 one_parity n s modes (product qs w) = number (accepted +1)
 one_parity n s modes (marginal qs xs w) = answer n s modes (marginal qs xs w)
 one_parity n s modes (probability low high w) = answer n s modes (probability low high w)
 one_parity n s modes (sample shots draws w out) = answer n s modes (sample shots draws w out)
 
 abbrev pub parity_engine : Engine
-parity_engine = record { run = run_by (λ os. os); ask = one_parity }
+parity_engine = asked_by one_parity
 
 -- "one answering 12 always"
 abbrev pub twelve_engine : Engine
 twelve_engine = record { run = λ t work marks ops state. record { number = 12; n = 0; modes = []; state = state }; ask = answer }
+
+-- one whose question 20 always has no for an answer. What is asked before it, 16, 18 and 19, and where a contradiction stops a list, is the engine's
+abbrev pub never_room : Ask
+never_room n s modes (product qs w) =
+    let place = bad_place n qs in
+    number (cond (state_ok n s modes) (cond (ltb place (length qs)) (refused 19 place) (refused 20 0)) (refused 16 0))
+never_room n s modes (marginal qs xs w) =
+    let place = stop_place n modes qs xs in
+    let list = cond (ltb place (length qs)) (stopped_of n qs place) (refused 20 0) in
+    number (cond (state_ok n s modes) (cond (bits_ok qs xs) list (refused 18 0)) (refused 16 0))
+never_room n s modes (probability low high w) = number (cond (state_ok n s modes) (refused 20 0) (refused 16 0))
+never_room n s modes (sample shots draws w out) = record { told = cond (state_ok n s modes) (refused 20 0) (refused 16 0); out = out }
+
+-- the same to the queries that `some` picks; the others it answers as the engine does
+abbrev pub no_room : (Query → Bool) → Ask
+no_room some n s modes q = cond (some q) (never_room n s modes q) (answer n s modes q)
+
+-- ---- queries of one kind
+
+abbrev pub is_product : Query → Bool
+is_product (product qs w) = true
+is_product (marginal qs xs w) = false
+is_product (probability low high w) = false
+is_product (sample shots draws w out) = false
+
+abbrev pub is_marginal : Query → Bool
+is_marginal (product qs w) = false
+is_marginal (marginal qs xs w) = true
+is_marginal (probability low high w) = false
+is_marginal (sample shots draws w out) = false
+
+abbrev pub is_probability : Query → Bool
+is_probability (product qs w) = false
+is_probability (marginal qs xs w) = false
+is_probability (probability low high w) = true
+is_probability (sample shots draws w out) = false
+
+abbrev pub is_sample : Query → Bool
+is_sample (product qs w) = false
+is_sample (marginal qs xs w) = false
+is_sample (probability low high w) = false
+is_sample (sample shots draws w out) = true

@@ -44,7 +44,7 @@ module _ (t : List ℕ) (work : List Float) (marks : List ℕ) (ops state : List
         right = λ modes lent qs.
             let table = subst (λ (r : Compiled). Begins y.header.n r.report.modes modes) y.report lent in
             subst (λ (claim : Type 0). claim)
-            (λ z. RightAnswers y.header.n modes (register_bits y.content.gates) qs
+            (λ z. RightAnswers y.header.n (register_bits y.content.gates) qs
             (answers answer (sym y.report z).report.n (sym y.final z) modes qs))
             (tape-answers t y.header y.content p.parsed state p.rest.state modes table register
             (passes-free y.header y.content _ _ _ p.rest) qs);

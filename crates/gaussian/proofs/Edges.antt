@@ -37,7 +37,7 @@ use Rattle.detect.specs.Compile.{labels_of, items_of, order_of, tape_counts, rep
 use Rattle.detect.proofs.Reports.{blocks-add, blocks-items, no_blocks as fraction-one}
 use Rattle.detect.proofs.Edges.{Reporting, edges}
 use Rattle.state.specs.Answers as Answers
-use Rattle.state.specs.Calls.{expectation_z_of}
+use Rattle.queries.specs.Calls.{expectation_z_product_of}
 use Rattle.register.specs.Register.{RegisterTape, RegisterGate, PlainGate, register_from, register_bits}
 use Rattle.register.proofs.Tapes.{good-gates}
 use Rattle.basis.specs.Answers.{odd_ones, register_product}
@@ -78,7 +78,7 @@ pub data Edge : List ℕ → ℕ → Type 0 where
   iswap-reordered : Edge (tape 3 2 32 1 iswap02) 0
   iswap-11 : Edge (tape 3 0 32 1 iswap02) 11
 
--- what a run shows: ordering, wires by mode and modes by qubit; Z of a qubit; Gaussian blocks in proportion to all
+-- what a run shows: ordering, wires by mode and modes by qubit; Z of a qubit, with work for it; Gaussian blocks in proportion to all
 pub data Shown : Type 0 where
   order : Ordering → List ℕ → List ℕ → Shown
   parity : ℕ → Float → Shown
@@ -102,7 +102,7 @@ pub record Ordered (r : Report) (o : Ordering) (order modes : List ℕ) : Type 0
 -- of the report and the state that a run gives and leaves
 abbrev pub Seen : Report → List Float → Shown → Type 0
 Seen r s (order o wires modes) = Ordered r o wires modes
-Seen r s (parity q x) = expectation_z_of r.n s r.modes q ≡ Answers.accepted x
+Seen r s (parity q x) = (w : List Float) → 4 ≤ length w → expectation_z_product_of r.n s r.modes (q ∷ []) w ≡ Answers.accepted x
 Seen r s (fraction x) = r.fraction ≡ x
 
 -- ---- what the tapes are parsed to
@@ -281,11 +281,11 @@ module _ (t : List ℕ) (h : Header) (c : Content) (m : Mat2) (e : parse t ≡ a
   pub x-accepted : Suffice h c.gates (length work) (length marks) (length ops) (length state) → Accepted t work marks ops state
   x-accepted = (register-claim t work marks ops state).accepts h c e (plain-register t h c e all) (λ g i. (all g i).1)
 
-  pub x-turns : Accepted t work marks ops state → z_after t work marks ops state 0 ≡ Answers.accepted f-1
+  pub x-turns : Accepted t work marks ops state → (w : List Float) → 4 ≤ length w → z_after t work marks ops state 0 w ≡ Answers.accepted f-1
   unfolding register_bits register_from odd_ones of_bits neg
-  x-turns a =
+  x-turns a w four =
       let some : 0 < h.n = (good-gates t h c e (One 0x02 0 m) (rw x (Memᴰ.head refl))).below in
-      z-told t work marks ops state a (plain-register t h c e all) 0 (rw (run-qubits t work marks ops state a h c e) some) h c e
+      z-told t work marks ops state a (plain-register t h c e all) 0 (rw (run-qubits t work marks ops state a h c e) some) w four h c e
       ∙ ap (λ gs. Answers.accepted (register_product (register_bits gs) (0 ∷ []))) x
 
 -- ---- what every row shows

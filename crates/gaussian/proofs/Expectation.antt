@@ -1,11 +1,11 @@
--- Z of a qubit after an accepted run: the state passes question 16, so that `expectation_z` is answered for every qubit below n; after a register tape
--- the answer is that of the qubit's last bit. Assumes nothing.
+-- Z of a qubit after an accepted run: the state passes question 16, so that every qubit below n is answered with four places of work; after a register tape the
+-- answer is that of the qubit's last bit. Assumes nothing.
 use mathlib.Core.Path.{◌≡◌, sym, ap, subst, ◌∙◌}
 use mathlib.Core.Bool.{true}
 use mathlib.Core.List.{List, [], ◌∷◌, Memᴰ}
-use Prim.Native.Nat.{ℕ, ◌<◌}
+use Prim.Native.Nat.{ℕ, ◌≤◌, ◌<◌}
+use lib.ListN.{length}
 use lib.Ieee.{Float}
-use borrow.Author.Tests.{lt-ltb}
 use Rattle.tape.specs.Parse.{Content, accepted, parse, content_of}
 use Rattle.tape.specs.declared.header.Header.{Header}
 use Rattle.tape.specs.declared.gates.Gate.{Gate}
@@ -14,22 +14,23 @@ use Rattle.detect.specs.declared.report.Report.{Report}
 use Rattle.detect.specs.Report.{report_of}
 use Rattle.detect.specs.Compile.{reported_of}
 use Rattle.state.specs.Questions.{state_ok}
-use Rattle.state.specs.Calls.{expectation_z_of}
+use Rattle.queries.specs.Calls.{expectation_z_product_of}
+use Rattle.queries.proofs.One.{one-qubit}
 use Rattle.state.specs.Answers.{Told}
 use Rattle.state.specs.Answers as Answers
 use Rattle.register.specs.Register.{RegisterTape, RegisterGate, register_bits}
 use Rattle.basis.specs.Answers.{register_product}
-use Rattle.claim.specs.Queries.{Given, Begins, expectation, answers}
+use Rattle.claim.specs.Queries.{Given, Begins, product, answers}
 use Rattle.claim.proofs.Tables.{own-table}
 use Rattle.claim.proofs.Answering.{passes-sixteen}
 use Rattle.gaussian.specs.Run.{ran, ran_state}
 use Rattle.gaussian.proofs.Accepted.{run-says}
 use Rattle.gaussian.proofs.Claim.{register-claim}
 
--- `expectation_z` of qubit q, put to the state that the run leaves, with the run's n and mode table
-abbrev pub z_after : List ℕ → List Float → List ℕ → List Float → List Float → ℕ → Told
-z_after t work marks ops state q =
-    expectation_z_of (ran t work marks ops state).report.n (ran_state t work marks ops state) (ran t work marks ops state).report.modes q
+-- the product of qubit q alone, put to the state that the run leaves, with the run's n and mode table, and with work w
+abbrev pub z_after : List ℕ → List Float → List ℕ → List Float → List Float → ℕ → List Float → Told
+z_after t work marks ops state q w =
+    expectation_z_product_of (ran t work marks ops state).report.n (ran_state t work marks ops state) (ran t work marks ops state).report.modes (q ∷ []) w
 
 -- a tape whose gates have a register's codes
 pub register-tape : (t : List ℕ) (h : Header) (c : Content) → parse t ≡ accepted h c
@@ -72,17 +73,16 @@ module _ (t : List ℕ) (work : List Float) (marks : List ℕ) (ops state : List
 
   -- ---- Z of qubit q
 
-  module _ (register : RegisterTape t) (q : ℕ) (l : q < (ran t work marks ops state).report.n) where
-    z-given : (z_after t work marks ops state q).number ≡ 0
-    unfolding expectation_z_of
-    z-given = rw (state-passes, lt-ltb q (ran t work marks ops state).report.n l)
+  module _ (register : RegisterTape t) (q : ℕ) (l : q < (ran t work marks ops state).report.n) (w : List Float) (four : 4 ≤ length w) where
+    z-given : (z_after t work marks ops state q w).number ≡ 0
+    z-given = ap (λ (t : Told). t.number) (one-qubit _ _ _ q state-passes l w four)
 
     pub z-told : (h : Header) (c : Content) → parse t ≡ accepted h c
-        → z_after t work marks ops state q ≡ Answers.accepted (register_product (register_bits c.gates) (q ∷ []))
+        → z_after t work marks ops state q w ≡ Answers.accepted (register_product (register_bits c.gates) (q ∷ []))
     unfolding answers
     z-told h c e =
         let y = (register-claim t work marks ops state).right register a in
         let same : accepted y.header y.content ≡ accepted h c = sym y.parsed ∙ e in
         let content : y.content ≡ c = cc in
-        ap (λ (g : Given). g.told) ((y.right _ (run-table y.header y.content y.parsed) (expectation q ∷ [])).0.right z-given)
+        ap (λ (g : Given). g.told) ((y.right _ (run-table y.header y.content y.parsed) (product (q ∷ []) w ∷ [])).0.right z-given)
         ∙ ap (λ (c : Content). Answers.accepted (register_product (register_bits c.gates) (q ∷ []))) content

@@ -40,7 +40,7 @@ pub record RightRun (ask : Ask) (t : List ℕ) (x : Left) : Type 0 where
   -- each answer is the register's, and a query is refused only where one of its own questions has no for an answer (`RightAnswers`); the table may be lent
   -- with whatever stands behind its first n entries
   pub right : (modes : List ℕ) → Begins header.n x.modes modes → (qs : List Query)
-      → RightAnswers header.n modes (register_bits content.gates) qs (answers ask x.n x.state modes qs)
+      → RightAnswers header.n (register_bits content.gates) qs (answers ask x.n x.state modes qs)
 
 -- For every register tape t whose run is accepted, "those that give no number"
 abbrev pub AnswersRight : Ask → List ℕ → Left → Type 0

@@ -47,7 +47,7 @@ use Rattle.detect.proofs.Edges.{Fusing, tally-is}
 use Rattle.local.specs.State.{State, vacuum, get}
 use Rattle.local.specs.Det.{better_of as better, last_largest, less, lowered_all, eliminated, det, odd}
 use Rattle.state.specs.Operation.{is_whole, mode_of, two_of, decode_of, effect}
-use Rattle.state.specs.Calls.{z_of}
+use Rattle.queries.specs.Products.{z_of}
 use Rattle.std.proofs.Common.{Option, Some, None}
 use Rattle.state.specs.declared.operation.Operation as state
 use Rattle.evolve.specs.Evolve.{decoded_effect, evolved_from, evolved}

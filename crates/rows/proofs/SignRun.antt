@@ -1,5 +1,5 @@
--- The sign row from the tape's bytes to the caller's answer: on slices that suffice the run gives no number, and `expectation_z` of qubit 2, put to the
--- state that the run leaves, is -1. List, items, program and parity are those computed before; no float is computed here. Assumes nothing.
+-- The sign row from the tape's bytes to the caller's answer: on slices that suffice the run gives no number, and the product of qubit 2 alone, put to
+-- the state that the run leaves, is -1. List, items, program and parity are those computed before; no float is computed here. Assumes nothing.
 use mathlib.Core.Path.{◌≡◌, refl, sym, ap, ◌∙◌}
 use mathlib.Core.Bool.{true, false}
 use mathlib.Core.List.{List, [], ◌∷◌}
@@ -7,8 +7,9 @@ use Prim.Native.Nat.{ℕ, ◌*◌, ◌≤◌}
 use native.Mathlib.Omega.{arith}
 use lib.Dec.{lit<}
 use lib.ListN.{length}
-use lib.Ieee.{Float, binary64, mul}
+use lib.Ieee.{Float, binary64, mul, of_bits}
 use borrow.Author.Tests.{le-ltb, eq-eqb}
+use Rattle.laws.specs.Zeros.{nz}
 use Rattle.laws.specs.Bounds.{op_places}
 use Rattle.laws.specs.Tables.{mode_at}
 use Rattle.laws.specs.Views.{up_from}
@@ -26,7 +27,9 @@ use Rattle.local.proofs.Stored.{stored_is}
 use Rattle.state.specs.Bounds.{dim_of}
 use Rattle.state.specs.Questions.{state_ok}
 use Rattle.state.specs.Answers as Answers
-use Rattle.state.specs.Calls.{z_of, expectation_z_of}
+use Rattle.queries.specs.Products.{z_of}
+use Rattle.queries.specs.Calls.{expectation_z_product_of}
+use Rattle.queries.proofs.One.{one-qubit}
 use Rattle.evolve.specs.Evolve.{evolved}
 use Rattle.gaussian.specs.Run.{interacts, state_after, ran, ran_state}
 use Rattle.gaussian.proofs.Accepted.{Passed, passed-asked, run-accepted}
@@ -97,15 +100,23 @@ module _ (work : List Float) (marks : List ℕ) (ops state : List Float) (roomy 
       ∙ (λ i. state_ok (sym run_is i).report.n (sym left_is i) (sym run_is i).report.modes)
       ∙ state-passes tape work marks ops state accepts
 
-  answer-is : expectation_z_of 3 (left state) modes 2 ≡ Answers.accepted f-1
-  unfolding expectation_z_of
-  answer-is = rw ok (ap Answers.accepted (ap (z_of (get (state_at (dim_of 3) (left state)))) mode-is ∙ entry-is ∙ turned))
+  no-zero : nz f-1 ≡ f-1
+  unfolding of_bits
+  no-zero = refl
 
-  -- the run gives no number, and Z of qubit 2 is -1
-  pub sign-row : ((ran tape work marks ops state).answer ≡ Answer.Done) × (z_after tape work marks ops state 2 ≡ Answers.accepted f-1)
+  answer-is : (w : List Float) → 4 ≤ length w → expectation_z_product_of 3 (left state) modes (2 ∷ []) w ≡ Answers.accepted f-1
+  answer-is w four =
+      one-qubit 3 (left state) modes 2 ok (omega arith) w four
+      ∙ ap (λ (z : Float). Answers.accepted (nz z)) (ap (z_of (get (state_at (dim_of 3) (left state)))) mode-is ∙ entry-is ∙ turned)
+      ∙ ap Answers.accepted no-zero
+
+  -- the run gives no number, and Z of qubit 2, asked with four places of work, is -1
+  pub sign-row : ((ran tape work marks ops state).answer ≡ Answer.Done)
+      × ((w : List Float) → 4 ≤ length w → z_after tape work marks ops state 2 w ≡ Answers.accepted f-1)
   sign-row = (
     ap (λ (c : Compiled). c.answer) run_is,
-    (λ i. expectation_z_of (run_is i).report.n (left_is i) (run_is i).report.modes 2)
-        ∙ (λ i. expectation_z_of (n-is i) (left state) modes 2)
-        ∙ answer-is,
+    λ w four.
+        (λ i. expectation_z_product_of (run_is i).report.n (left_is i) (run_is i).report.modes (2 ∷ []) w)
+        ∙ (λ i. expectation_z_product_of (n-is i) (left state) modes (2 ∷ []) w)
+        ∙ answer-is w four,
   )
