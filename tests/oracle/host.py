@@ -8,6 +8,7 @@ queries. Compared with the original: every byte of the tape, the report, the ver
 the list is angled: then within 1e-9, and nothing but the tape where document 01 does not compare (tolerance under 1e-12).
 """
 import json
+import math
 import os
 import struct
 import subprocess
@@ -19,7 +20,7 @@ RELABEL, REORDER, DROP = 1, 2, 4
 DIGITS = 16
 # largest difference between two answers to an angled list, and the least tolerance with which these are compared
 CLOSE, LEAST_TOLERANCE = 1e-9, 1e-12
-QUERIES = ("z", "zz", "prod", "marg", "prob", "sample")
+QUERIES = ("prod", "marg", "prob", "sample")
 REPORT = {"blocks": "blocks", "blocks_2q": "two_qubit_blocks", "gaussian": "gaussian", "bad": "bad", "nonadjacent": "nonadjacent",
           "interactions": "interactions", "swaps": "swaps_relabelled"}
 
@@ -57,7 +58,7 @@ def asked(one, folder):
     n, options, queries, sample = int(one[0][0]), [], [], None
     for name, *rest in one[1:]:
         line = " ".join([name] + rest)
-        if name == "zz" or name == "prod" and rest:
+        if name == "prod" and rest:
             options += ["--product", ",".join(rest)]
         elif name == "marg" and len(rest) > 1 and 2 * rest.index(":") + 1 == len(rest):
             k = rest.index(":")
@@ -92,10 +93,11 @@ def answers(text):
     return found
 
 
-def same(a, b, angled):
+def same(a, b, angled, signed):
+    """Whether two answers agree; with `signed` the signs of zeros too."""
     if angled:
         return abs(a - b) <= CLOSE
-    return a == b or a != a and b != b
+    return a != a and b != b or a == b and (not signed or math.copysign(1, a) == math.copysign(1, b))
 
 
 def compare(said, original, queries, sample, exact_only):
@@ -114,15 +116,15 @@ def compare(said, original, queries, sample, exact_only):
     if not said["accepted"]:
         return wrong
     for parity in said["parities"]:
-        line = f"z {parity['qubit']}"
-        if line in original and not same(parity["z"], number(original[line]), angled):
+        line = f"prod {parity['qubit']}"
+        if line in original and not same(parity["z"], number(original[line]), angled, True):
             wrong.append(line)
     for line, query in zip(queries, said["queries"]):
         given = original[line]
         if given.startswith("refused"):
             right = given == f"refused {query.get('refused')} at {query.get('place')}"
         else:
-            right = "value" in query and same(query["value"], number(given), angled)
+            right = "value" in query and same(query["value"], number(given), angled, line.startswith("prod"))
         wrong += [] if right else [line]
     if sample is not None and not angled and not original[sample].startswith("refused"):
         n, words = report["qubits"], original[sample].split()

@@ -25,6 +25,9 @@ const QUBITS_EXIST: u8 = question::LISTED as u8;
 /// A state of the original, in either of its module trees.
 pub trait Asked {
     fn ask(&self, query: &Query) -> Result<Answer, SimError>;
+
+    /// What the original's own methods for one qubit and for two give; none for other lists.
+    fn ask_few(&self, qs: &[usize]) -> Option<Result<f64, SimError>>;
 }
 
 macro_rules! asked {
@@ -32,14 +35,20 @@ macro_rules! asked {
         impl Asked for $state {
             fn ask(&self, query: &Query) -> Result<Answer, SimError> {
                 match query {
-                    Query::Z(q) => self.expectation_z(*q).map(Answer::Value),
-                    Query::Zz(i, j) => self.z_correlation(*i, *j).map(Answer::Value),
                     Query::Product(qs) => self.expectation_z_product(qs).map(Answer::Value),
                     Query::Marginal(qs, bs) => self.marginal_probability(qs, bs).map(Answer::Value),
                     Query::Probability(x) => self.probability(*x).map(Answer::Value),
                     Query::Sample(shots, draws) => {
                         self.sample(*shots, &mut Draws(draws.iter())).map(Answer::Shots)
                     }
+                }
+            }
+
+            fn ask_few(&self, qs: &[usize]) -> Option<Result<f64, SimError>> {
+                match *qs {
+                    [q] => Some(self.expectation_z(q)),
+                    [i, j] => Some(self.z_correlation(i, j)),
+                    _ => None,
                 }
             }
         }
@@ -54,9 +63,26 @@ pub fn answer(state: &impl Asked, list: &List, query: &Query) -> Answer {
     answer_on(state, list.n, query)
 }
 
-/// Puts one query to a state of n qubits.
+/// Puts one query to a state of n qubits. Of a product of one qubit or of two it is asserted that the original's own method for so many
+/// gives the same bits: who agrees with the product agrees with that method.
 pub fn answer_on(state: &impl Asked, n: usize, query: &Query) -> Answer {
-    state.ask(query).unwrap_or_else(|e| refusal(&e, n, query))
+    let answer = state.ask(query).unwrap_or_else(|e| refusal(&e, n, query));
+    if let Some(few) = of_few(state, n, query) {
+        let (product, few) = (answer.to_string(), few.to_string());
+        assert_eq!(product, few, "{query} beside the original's method for one qubit or for two");
+    }
+    answer
+}
+
+/// A product of one qubit by the original's `expectation_z`, of two by its `z_correlation`; but a zero of one qubit is +0.0, whatever
+/// its sign there.
+fn of_few(state: &impl Asked, n: usize, query: &Query) -> Option<Answer> {
+    let Query::Product(qs) = query else { return None };
+    Some(match state.ask_few(qs)? {
+        Ok(x) if qs.len() == 1 && x == 0.0 => Answer::Value(0.0),
+        Ok(x) => Answer::Value(x),
+        Err(e) => refusal(&e, n, query),
+    })
 }
 
 /// The number of an error; the place of a qubit is its index in the list.
@@ -73,7 +99,6 @@ fn refusal(error: &SimError, n: usize, query: &Query) -> Answer {
 /// The index of the first listed qubit that is not below n.
 fn first_beyond(n: usize, query: &Query) -> usize {
     let listed: &[usize] = match query {
-        Query::Zz(i, j) => &[*i, *j],
         Query::Product(qs) | Query::Marginal(qs, _) => qs,
         _ => &[],
     };

@@ -92,15 +92,13 @@ impl Counts {
             return;
         };
         let want = match query {
-            Query::Z(q) => vector.product(&[*q]),
-            Query::Zz(i, j) => vector.product(&[*i, *j]),
             Query::Product(qs) => vector.product(qs),
             Query::Marginal(qs, bits) => vector.marginal(qs, bits),
             Query::Probability(x) => vector.probability(*x as usize & ((1 << list.n) - 1)),
             Query::Sample(..) => return,
         };
         *match query {
-            Query::Z(_) => &mut self.z,
+            Query::Product(qs) if qs.len() == 1 => &mut self.z,
             Query::Marginal(..) => &mut self.marginals,
             Query::Probability(_) => &mut self.probabilities,
             _ => &mut self.products,
@@ -140,7 +138,7 @@ impl Counts {
 
 /// Every Z, then some products, marginals and basis indices.
 fn queries(n: usize, rng: &mut Rng) -> Vec<Query> {
-    let mut out: Vec<Query> = (0..n).map(Query::Z).collect();
+    let mut out: Vec<Query> = (0..n).map(Query::z).collect();
     for _ in 0..RANDOM_QUERIES {
         out.push(Query::Product(rng.subset(n)));
         let qs = rng.subset(n);

@@ -82,7 +82,7 @@ fn suits(list: &List) -> bool {
     }
     let ran = run(list);
     let Ok(state) = ran.state else { return false };
-    let z = |q| state.expectation_z(q).expect("a qubit");
+    let z = |q| state.expectation_z_product(&[q]).expect("a qubit");
     let parted = (0..list.n).filter(|&q| (0.001..0.999).contains(&z(q).abs())).count();
     ran.report.ordering == Some(Ordering::Paths) && 2 * parted > list.n && !traced(list).angled
 }
@@ -138,7 +138,7 @@ fn accepted(list: &List) -> String {
     let (blocks, gaussian, bad) = (r.blocks, r.gaussian_blocks, r.non_gaussian);
     let interactions = r.interactions.len();
     let order: String = r.order.iter().map(|wire| format!(" {wire}")).collect();
-    let z = |q| millionths(state.expectation_z(q).expect("a qubit"));
+    let z = |q| millionths(state.expectation_z_product(&[q]).expect("a qubit"));
     let lines: String = (0..r.n).map(|q| format!("q{q} {}\n", z(q))).collect();
     format!(
         "qubits {} blocks {blocks} gaussian {gaussian} bad {bad} interactions {interactions}\n",

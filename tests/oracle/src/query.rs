@@ -8,10 +8,6 @@ use std::fmt;
 /// One question.
 #[derive(Clone, Debug)]
 pub enum Query {
-    /// `expectation_z`
-    Z(usize),
-    /// `z_correlation`
-    Zz(usize, usize),
     /// `expectation_z_product`
     Product(Vec<usize>),
     /// `marginal_probability`
@@ -22,32 +18,23 @@ pub enum Query {
     Sample(usize, Vec<f64>),
 }
 
+impl Query {
+    /// Z of one qubit.
+    pub fn z(q: usize) -> Query {
+        Query::Product(vec![q])
+    }
+}
+
 /// The query of a line, split into words; none if it begins with another word.
 pub fn parse(words: &[&str]) -> Option<Result<Query, String>> {
     let (name, rest) = words.split_first()?;
     Some(match *name {
-        "z" => one(rest),
-        "zz" => two(rest),
         "prod" => numbers(rest).map(Query::Product),
         "marg" => marginal(rest),
         "prob" => probability(rest),
         "sample" => sample(rest),
         _ => return None,
     })
-}
-
-fn one(rest: &[&str]) -> Result<Query, String> {
-    match numbers(rest)?[..] {
-        [q] => Ok(Query::Z(q)),
-        _ => Err("z takes one qubit".to_string()),
-    }
-}
-
-fn two(rest: &[&str]) -> Result<Query, String> {
-    match numbers(rest)?[..] {
-        [i, j] => Ok(Query::Zz(i, j)),
-        _ => Err("zz takes two qubits".to_string()),
-    }
 }
 
 fn marginal(rest: &[&str]) -> Result<Query, String> {
@@ -99,8 +86,6 @@ impl fmt::Display for Query {
     fn fmt(&self, f: &mut fmt::Formatter<'_>) -> fmt::Result {
         let list = |qs: &[usize]| -> String { qs.iter().map(|q| format!(" {q}")).collect() };
         match self {
-            Query::Z(q) => write!(f, "z {q}"),
-            Query::Zz(i, j) => write!(f, "zz {i} {j}"),
             Query::Product(qs) => write!(f, "prod{}", list(qs)),
             Query::Marginal(qs, bs) => {
                 let bs: Vec<usize> = bs.iter().map(|&b| b as usize).collect();

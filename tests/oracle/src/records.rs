@@ -6,8 +6,11 @@ use crate::bits::word;
 /// The tag that ends a list.
 const END: u64 = 0;
 
-/// The largest list, in bytes.
-const LARGEST: usize = 60_000;
+/// The largest list, in bytes; the programs have room for 65,536.
+pub const LARGEST: usize = 65_000;
+
+/// Lists for `fuse` and `compile` are filled up to so many bytes.
+pub const FULL: usize = 60_000;
 
 /// Records so far.
 #[derive(Default)]
@@ -37,11 +40,11 @@ impl Records {
     }
 
     /// Adds a tape and what belongs to it: tag, the tape's length in bytes, how many words follow,
-    /// the tape, `body`. Nothing, and false, if there is no room.
-    pub fn tape(&mut self, tag: u64, bytes: &[u8], body: &[u64]) -> bool {
+    /// the tape, `body`. Nothing, and false, if the list would have more than `most` bytes.
+    pub fn tape(&mut self, most: usize, tag: u64, bytes: &[u8], body: &[u64]) -> bool {
         let tape = words_of(bytes);
         let words = tape.len() + body.len();
-        let room = 8 * (self.0.len() + words + 4) <= LARGEST;
+        let room = 8 * (self.0.len() + words + 4) <= most;
         if room {
             self.words(&[tag, bytes.len() as u64, words as u64]);
             self.words(&tape);

@@ -32,8 +32,6 @@ impl Register {
     pub fn answer(&self, query: &Query) -> Answer {
         let all: Vec<usize> = (0..self.n).collect();
         match query {
-            Query::Z(q) => self.product(&[*q]),
-            Query::Zz(i, j) => self.product(&[*i, *j]),
             Query::Product(qs) => self.product(qs),
             Query::Marginal(qs, bits) => self.marginal(qs, bits),
             Query::Probability(x) => {

@@ -10,7 +10,7 @@ mod random;
 use crate::bits::word;
 use crate::layout::{work_floats, work_marks, OP_PLACES};
 use crate::list::List;
-use crate::records::Records;
+use crate::records::{Records, FULL};
 use crate::tape::{gates_on, tape};
 use answer::{answer, Compiled};
 
@@ -44,7 +44,7 @@ fn add(out: &mut Records, bytes: &[u8], lent: Lent, zeros: [usize; 2], c: &Compi
     let mut body: Vec<u64> = lent.0.iter().chain(&zeros).map(|&x| x as u64).collect();
     body.extend(c.words());
     body.extend((c.ops.len()..lent.0[2]).map(|_| word(OLD)));
-    out.tape(TAPE, bytes, &body)
+    out.tape(FULL, TAPE, bytes, &body)
 }
 
 /// Adds a list; nothing, and false, if document 01 does not compare the two engines there, or if

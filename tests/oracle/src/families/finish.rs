@@ -48,8 +48,8 @@ impl Maker<'_> {
 }
 
 fn queries(rng: &mut Rng, n: usize) -> Vec<Query> {
-    let mut out: Vec<Query> = (0..n).map(Query::Z).collect();
-    out.push(Query::Zz(rng.below(n), rng.below(n)));
+    let mut out: Vec<Query> = (0..n).map(Query::z).collect();
+    out.push(Query::Product(vec![rng.below(n), rng.below(n)]));
     out.push(Query::Product((0..n).collect()));
     out.push(Query::Product(listed(rng, n)));
     for _ in 0..2 {
@@ -78,8 +78,8 @@ fn listed(rng: &mut Rng, n: usize) -> Vec<usize> {
 fn refused(rng: &mut Rng, n: usize) -> Query {
     let mut qs = rng.subset(n);
     match rng.below(4) {
-        0 => return Query::Z(n),
-        1 => return Query::Zz(0, n + rng.below(3)),
+        0 => return Query::z(n),
+        1 => return Query::Product(vec![0, n + rng.below(3)]),
         2 => return Query::Marginal((0..n).collect(), vec![false; n - 1]),
         _ => qs.insert(rng.below(qs.len() + 1), n),
     }

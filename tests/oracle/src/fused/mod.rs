@@ -8,7 +8,7 @@ mod ties;
 use crate::bits::word;
 use crate::families;
 use crate::list::{List, RELABEL};
-use crate::records::Records;
+use crate::records::{Records, FULL};
 use crate::rng::Rng;
 use crate::tape::{entries, header, record, tape};
 use crate::traced::traced;
@@ -44,7 +44,7 @@ fn put(out: &mut Records, tag: u64, bytes: &[u8], fused: &Fused, tried: usize, t
     let mut body = Vec::from([fused.swaps, tried, usize::from(angled)].map(|x| x as u64));
     body.extend(fused.slot_of_qubit.iter().chain(&fused.content).map(|&x| x as u64));
     fused.items.iter().for_each(|it| add_item(&mut body, it, tol, angled));
-    out.tape(tag, bytes, &body)
+    out.tape(FULL, tag, bytes, &body)
 }
 
 /// Adds a list with its own tape.

@@ -15,8 +15,8 @@ pub struct Asked {
     tag: u64,
     /// What is asked.
     before: Vec<u64>,
-    /// The length of work and how many of its places are zero after the call; nothing for Z.
-    work: Vec<u64>,
+    /// The length of work and how many of its places are zero after the call.
+    work: [u64; 2],
     /// Number, place, value.
     pub answer: [u64; 3],
     /// The words of a sample.
@@ -25,7 +25,7 @@ pub struct Asked {
 
 impl Asked {
     pub fn words(&self) -> Vec<u64> {
-        let parts = [&self.before, &self.work, &self.answer[..], &self.output].concat();
+        let parts = [&self.before[..], &self.work, &self.answer, &self.output].concat();
         [&[self.tag, parts.len() as u64], &parts[..]].concat()
     }
 }
@@ -48,10 +48,6 @@ fn ask(machine: &Machine, n: usize, k: usize, query: &Query) -> Asked {
     let wide = |xs: &[usize]| xs.iter().map(|&x| x as u64).collect::<Vec<u64>>();
     let work = |modes: usize| query_places(modes) + k % 3;
     match query {
-        Query::Z(q) => asked(tag::Z, wide(&[*q]), &[&[0, 0], &machine.z_words(*q)[..]].concat()),
-        Query::Zz(i, j) => {
-            asked(tag::ZZ, wide(&[*i, *j]), &machine.product_words(&[*i, *j], work(2)))
-        }
         Query::Product(qs) => {
             let answer = machine.product_words(qs, work(qs.len().min(n)));
             asked(tag::PRODUCT, [wide(&[qs.len()]), wide(qs)].concat(), &answer)
@@ -77,10 +73,10 @@ fn ask(machine: &Machine, n: usize, k: usize, query: &Query) -> Asked {
     }
 }
 
-/// Work and answer are five words; Z has no work.
+/// Work and answer are five words.
 fn asked(tag: u64, before: Vec<u64>, words: &[u64]) -> Asked {
-    let work = if tag == tag::Z { vec![] } else { words[..2].to_vec() };
-    Asked { tag, before, work, answer: [words[2], words[3], words[4]], output: vec![] }
+    let (work, answer) = ([words[0], words[1]], [words[2], words[3], words[4]]);
+    Asked { tag, before, work, answer, output: vec![] }
 }
 
 /// Whether the unmodified original gives the same answer. It has no questions 21 and 22.

@@ -96,7 +96,7 @@ fn no(number: u64, list: List) -> Edge {
 
 /// Every Z.
 fn zs(values: &[f64]) -> Vec<(Query, Says)> {
-    values.iter().enumerate().map(|(q, &x)| (Query::Z(q), Says::Value(x))).collect()
+    values.iter().enumerate().map(|(q, &x)| (Query::z(q), Says::Value(x))).collect()
 }
 
 fn edges() -> Vec<Edge> {
@@ -112,11 +112,11 @@ fn questions() -> Vec<Edge> {
         Marginal(qs.to_vec(), bits.iter().map(|&b| b == 1).collect::<Vec<bool>>())
     };
     let flipped = vec![
-        (Z(0), Value(-1.0)),
+        (Query::z(0), Value(-1.0)),
         (Product(vec![]), Value(1.0)),
         (Product(vec![0, 0]), Value(1.0)),
         (Product(vec![0, 0, 0]), Value(-1.0)),
-        (Zz(0, 0), Value(1.0)),
+        (Product(vec![0, 1]), Refused(19, 1)),
         // bits from n upward are ignored
         (Probability(!2), Value(1.0)),
         (Probability(!1), Value(0.0)),
@@ -128,7 +128,7 @@ fn questions() -> Vec<Edge> {
         (Sample(3, vec![0.0, 0.5, 1.0]), Refused(22, 2)),
         (Sample(1, vec![0.5, 1.0]), Given),
         (Sample(2, vec![0.5]), Refused(21, 0)),
-        (Z(1), Refused(19, 0)),
+        (Query::z(1), Refused(19, 0)),
     ];
     let contradicting = vec![
         (marginal(&[0, 0], &[0, 1]), Value(0.0)),
@@ -140,7 +140,7 @@ fn questions() -> Vec<Edge> {
         (marginal(&[0, 1], &[0]), Refused(18, 0)),
         (marginal(&[1], &[0]), Value(0.0)),
         (Product(vec![0, 1, 2]), Refused(19, 2)),
-        (Zz(0, 2), Refused(19, 1)),
+        (Product(vec![0, 2]), Refused(19, 1)),
         (Product(vec![1, 0]), Value(-1.0)),
     ];
     let none = vec![
@@ -204,9 +204,9 @@ fn large() -> Vec<Edge> {
     let all: Vec<usize> = (0..MAX_QUBITS).collect();
     let draws: Vec<f64> = all.iter().map(|&k| (k % 8) as f64 / 8.0).collect();
     let asks = vec![
-        (Query::Z(126), Says::Value(-1.0)),
-        (Query::Z(127), Says::Value(1.0)),
-        (Query::Z(128), Says::Refused(19, 0)),
+        (Query::z(126), Says::Value(-1.0)),
+        (Query::z(127), Says::Value(1.0)),
+        (Query::z(128), Says::Refused(19, 0)),
         (Query::Product(all), Says::Value(1.0)),
         (Query::Probability(ones), Says::Value(1.0)),
         (Query::Probability(ones | 1), Says::Value(0.0)),
@@ -214,7 +214,7 @@ fn large() -> Vec<Edge> {
     ];
     let (busy, bits) = busy();
     let asks_busy = vec![
-        (Query::Z(0), Says::Value(if bits & 1 == 1 { -1.0 } else { 1.0 })),
+        (Query::z(0), Says::Value(if bits & 1 == 1 { -1.0 } else { 1.0 })),
         (Query::Probability(bits), Says::Value(1.0)),
     ];
     vec![yes(wide, asks), yes(of(1, BOTH, &[X(0); MAX_GATES]), zs(&[1.0])), yes(busy, asks_busy)]
@@ -281,7 +281,7 @@ fn apart(out: &mut Records) {
     use Gate::*;
     let exactly = |list: List| List { tol: 0.0, ..list };
     let usual = of(2, RELABEL, &[Phase(0, 3.0), ISwap(0, 1), Cz(0, 1)]);
-    let asks = [0, 1].map(|q| (Query::Z(q), Says::Given));
+    let asks = [0, 1].map(|q| (Query::z(q), Says::Given));
     let first = yes(exactly(usual.clone()), asks.to_vec());
     let ran = Ran::of(&usual);
     check(&first, &ran);

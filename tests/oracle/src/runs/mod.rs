@@ -14,7 +14,7 @@ mod signs;
 use crate::bits::word;
 use crate::layout::{work_floats, work_marks};
 use crate::list::List;
-use crate::records::{words_of, Records};
+use crate::records::{words_of, Records, LARGEST};
 use crate::rng::Rng;
 use crate::tape::gates_on;
 use asked::Asked;
@@ -57,7 +57,7 @@ fn add(
     queries.iter().for_each(|q| words.extend(q.words()));
     words.push(END);
     let body = [&[words.len() as u64], &words_of(&pack(&words))[..]].concat();
-    out.tape(TAPE, bytes, &body)
+    out.tape(LARGEST, TAPE, bytes, &body)
 }
 
 /// Adds a tape and what the run of a list makes of it, with slices a few places longer than they

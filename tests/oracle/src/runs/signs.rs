@@ -88,15 +88,15 @@ fn is_right(list: &List, ran: &Ran, z: &[f64]) -> bool {
     counts.wrong == 0
         && (0..list.n).all(|q| {
             original
-                .expectation_z(q)
+                .expectation_z_product(&[q])
                 .is_ok_and(|x| (x - z[original.mode_of_qubit(q)]).abs() < 1e-12)
         })
 }
 
 /// A list with every Z and some other queries.
 fn of(rng: &mut Rng, n: usize, flags: u8, gates: Vec<Gate>) -> List {
-    let mut queries: Vec<Query> = (0..n).map(Query::Z).collect();
-    queries.push(Query::Zz(0, n - 1));
+    let mut queries: Vec<Query> = (0..n).map(Query::z).collect();
+    queries.push(Query::Product(vec![0, n - 1]));
     queries.push(Query::Product((0..n).collect()));
     queries.push(Query::Marginal(vec![n - 1, 0], vec![rng.chance(1, 2), rng.chance(1, 2)]));
     queries.push(Query::Probability(u128::from(rng.word())));

@@ -2,6 +2,7 @@
 
 use super::machine::Machine;
 use super::{any_modes, any_slice, float, op, Floats, FLOATS};
+use crate::layout::query_places;
 use crate::rng::Rng;
 use original::access::state::access;
 
@@ -27,7 +28,7 @@ fn arbitrary(machine: &mut Machine, rng: &mut Rng, kind: Floats, k: usize) {
     let numbers: Vec<f64> = (0..if wide { 16 } else { 4 }).map(|_| float(rng, kind)).collect();
     let mode = rng.below(n - usize::from(wide)) as f64;
     machine.apply(&op(if wide { 2.0 } else { 1.0 }, mode, &numbers));
-    machine.z(rng.below(n + 1));
+    machine.product(&[rng.below(n + 1)], query_places(1) + k % 3);
 }
 
 /// Maps whose determinant is below zero with the last largest pivot and not with the first, or the other way round.
@@ -44,6 +45,7 @@ fn pivots(machine: &mut Machine, rng: &mut Rng) {
             found[side] += 1;
             machine.state(3, &any_slice(rng, 3, Floats::Dense, true), &[0, 1, 2]);
             machine.apply(&op(2.0, 0.0, &q));
+            machine.product(&[0], query_places(1));
         }
     }
 }
@@ -124,19 +126,19 @@ fn refused_states(machine: &mut Machine, rng: &mut Rng) {
     for modes in tables {
         machine.state(2, &slice, modes);
         machine.apply(&op(1.0, 0.0, &[0.5; 4]));
-        machine.z(0);
-        machine.zz(0, 1, 16);
+        machine.product(&[0], 4);
+        machine.product(&[0, 1], 16);
         machine.sample(1, &[0.5, 0.5], 2, 16);
     }
     for n in [129, 1 << 32, usize::MAX] {
         machine.state(n, &slice, &[0, 1]);
         machine.apply(&op(1.0, 0.0, &[0.5; 4]));
-        machine.z(0);
+        machine.product(&[0], 4);
         machine.probability(0, 0, 16);
         machine.product(&[], 16);
     }
     machine.state(2, &slice[..19], &[0, 1]);
     machine.apply(&op(1.0, 0.0, &[0.5; 4]));
-    machine.z(0);
+    machine.product(&[0], 4);
     machine.marginal(&[0], &[0], 16);
 }

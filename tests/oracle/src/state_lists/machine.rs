@@ -3,11 +3,13 @@
 //! Each call becomes a record.
 
 use super::tag;
+use crate::answer::{self, answer_on};
 use crate::bits::word;
 use crate::layout::{
     covariance_places, index_of, index_words, kind, query_places, state_places, INDEX_WORDS,
     MAX_QUBITS, MAX_SHOTS, OP_PLACES,
 };
+use crate::query::Query;
 use crate::records::Records;
 use original::access::detect::{GaussOp, InteractionPhase};
 use original::access::state::{access, GaussianState};
@@ -153,23 +155,6 @@ impl Machine {
         self.slice[..now.len()].copy_from_slice(&now);
     }
 
-    /// `expectation_z`: qubit, number, place, value.
-    pub fn z(&mut self, q: usize) {
-        let mut words = vec![q as u64];
-        words.extend(self.z_words(q));
-        self.record(tag::Z, &words);
-    }
-
-    /// Number, place and value of `expectation_z`.
-    pub fn z_words(&self, q: usize) -> Vec<u64> {
-        let (number, place, value) = match (self.state_ok(), q < self.n) {
-            (false, _) => refused(16, 0),
-            (_, false) => refused(19, 0),
-            _ => (0, 0, self.original().expectation_z(q).expect("a good qubit")),
-        };
-        vec![number, place, word(value)]
-    }
-
     /// The words of work and answer: work's length, how many of its places are zero after the call, number,
     /// place, value. `dim` is none if the answer comes before question 20.
     fn worked(&self, work: usize, dim: Option<usize>, value: impl Fn() -> Answer) -> Vec<u64> {
@@ -191,17 +176,17 @@ impl Machine {
                 let odd = (0..self.n)
                     .filter(|q| qubits.iter().filter(|&x| x == q).count() % 2 == 1)
                     .count();
-                let value = || self.original().expectation_z_product(qubits).expect("good qubits");
-                self.worked(work, Some(2 * odd), || (0, 0, value()))
+                self.worked(work, Some(2 * odd), || (0, 0, self.product_value(qubits)))
             }
         }
     }
 
-    /// `z_correlation`: two qubits, then work and answer.
-    pub fn zz(&mut self, i: usize, j: usize, work: usize) {
-        let mut words = vec![i as u64, j as u64];
-        words.extend(self.product_words(&[i, j], work));
-        self.record(tag::ZZ, &words);
+    /// The original's product of good qubits.
+    fn product_value(&self, qubits: &[usize]) -> f64 {
+        match answer_on(&self.original(), self.n, &Query::Product(qubits.to_vec())) {
+            answer::Answer::Value(x) => x,
+            other => panic!("a product of good qubits gives{other}"),
+        }
     }
 
     /// `expectation_z_product`: number of qubits, the qubits, then work and answer.
@@ -311,9 +296,9 @@ impl Machine {
     /// Z of every qubit and every product of two, and the probability of some indices.
     pub fn ask_all(&mut self) {
         let n = self.n;
-        (0..n).for_each(|q| self.z(q));
+        (0..n).for_each(|q| self.product(&[q], query_places(1) + q % 3));
         for j in 1..n {
-            (0..j).for_each(|i| self.zz(i, j, 16));
+            (0..j).for_each(|i| self.product(&[i, j], query_places(2)));
         }
         let all: Vec<usize> = (0..n).collect();
         self.product(&all, query_places(n));

@@ -1,5 +1,6 @@
 //! The stored lists of states and the calls on them. A record is a tag, the
-//! number of words that follow, and the words. docs/TESTING.md has the table.
+//! number of words that follow, and the words. crates/replay_state/README.md has
+//! the table.
 
 mod applies;
 pub mod machine;
@@ -16,12 +17,10 @@ pub mod tag {
     pub const STATE: u64 = 1;
     pub const APPLY: u64 = 2;
     pub const HOLDS: u64 = 3;
-    pub const Z: u64 = 4;
-    pub const ZZ: u64 = 5;
-    pub const PRODUCT: u64 = 6;
-    pub const MARGINAL: u64 = 7;
-    pub const PROBABILITY: u64 = 8;
-    pub const SAMPLE: u64 = 9;
+    pub const PRODUCT: u64 = 4;
+    pub const MARGINAL: u64 = 5;
+    pub const PROBABILITY: u64 = 6;
+    pub const SAMPLE: u64 = 7;
 }
 
 /// The list of a name.

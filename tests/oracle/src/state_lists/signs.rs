@@ -116,7 +116,7 @@ fn turn_matters(n: usize, steps: &[Step], lost: usize) -> bool {
                 s = access::state(n, access::m(&s).to_vec(), d, (0..n).collect());
             }
         }
-        (0..n).map(|q| s.expectation_z(q).expect("a good qubit")).collect()
+        (0..n).map(|q| s.expectation_z_product(&[q]).expect("a good qubit")).collect()
     };
     run(lost).iter().zip(run(steps.len())).any(|(a, b)| (a - b).abs() > 0.01)
 }
