@@ -98,7 +98,7 @@ extern "C" {
 /* state, the covariance matrix with the signs: questions 15 and 16 */
 #define JOZKERAL_COVARIANCE_PLACES(n) (4 * (size_t)(n) * (size_t)(n))
 #define JOZKERAL_STATE_PLACES(n) (JOZKERAL_COVARIANCE_PLACES(n) + 2 * (size_t)(n))
-/* work of a query: enough for each; a sample needs them all */
+/* work of a query of n qubits: question 20. Those of all qubits suffice for each query; a basis index and a sample need them all */
 #define JOZKERAL_QUERY_PLACES(n) JOZKERAL_COVARIANCE_PLACES(n)
 /* tables, and where the last of them starts, the modes */
 #define JOZKERAL_TABLE_PLACES (JOZKERAL_TABLES * JOZKERAL_MAX_QUBITS)
@@ -193,16 +193,14 @@ uint64_t jozkeral_run(const uint8_t *tape, size_t tape_len, double *work, size_t
 uint64_t jozkeral_apply(size_t n, double *state, size_t state_len, const uint16_t *modes, size_t modes_len, const double *op,
                         size_t op_len);
 
-/* Z of qubit q (on the state of a run from -1 to 1, but for rounding): questions 16 and 19 (at 0). */
-uint64_t jozkeral_expectation_z(size_t n, const double *state, size_t state_len, const uint16_t *modes, size_t modes_len, size_t q,
-                                uint64_t *place, size_t place_len, double *answer, size_t answer_len);
-
-/* The product of Z of the qubits i and j: questions 16, 19 (at 0 for i, at 1 for j) and 20. */
-uint64_t jozkeral_z_correlation(size_t n, const double *state, size_t state_len, const uint16_t *modes, size_t modes_len, size_t i,
-                                size_t j, double *work, size_t work_len, uint64_t *place, size_t place_len, double *answer,
-                                size_t answer_len);
-
-/* The product of Z over the listed qubits, of which pairs cancel; 1.0 for none: questions 16, 19 and 20. */
+/*
+ * The product of Z over the listed qubits, their joint parity (on the state of a run from -1 to 1, but for rounding): questions 16,
+ * 19 and 20. Pairs of a listed qubit cancel, so that those listed an odd number of times are left. For k that are left, work has
+ * JOZKERAL_QUERY_PLACES(k) places; of none the product is 1.0, and work may be empty.
+ *
+ * Z of one qubit q is the product over the list of q alone, `&q, 1`: work has 4 places. It is an entry of the covariance, but
+ * +0.0 where that is -0.0. The correlation of two qubits is the product over the list of the two: work has 16 places.
+ */
 uint64_t jozkeral_expectation_z_product(size_t n, const double *state, size_t state_len, const uint16_t *modes, size_t modes_len,
                                         const size_t *qubits, size_t qubits_len, double *work, size_t work_len, uint64_t *place,
                                         size_t place_len, double *answer, size_t answer_len);
@@ -239,7 +237,7 @@ uint64_t jozkeral_sample(size_t n, const double *state, size_t state_len, const 
     double work[JOZKERAL_WORK_PLACES(G, N)], ops[JOZKERAL_OPS_PLACES(G, N)], state[JOZKERAL_STATE_PLACES(N)];
     uint32_t marks[JOZKERAL_MARK_PLACES(G, N)];
     uint64_t place[1], report[JOZKERAL_REPORT_WORDS];
-    double measures[JOZKERAL_MEASURES], z[1];
+    double measures[JOZKERAL_MEASURES], z_work[JOZKERAL_QUERY_PLACES(1)], z[1];
     uint16_t tables[JOZKERAL_TABLE_PLACES];
     uint64_t no = jozkeral_run(tape, sizeof tape, work, JOZKERAL_WORK_PLACES(G, N), marks, JOZKERAL_MARK_PLACES(G, N),
                                ops, JOZKERAL_OPS_PLACES(G, N), state, JOZKERAL_STATE_PLACES(N), place, 1,
@@ -247,8 +245,8 @@ uint64_t jozkeral_sample(size_t n, const double *state, size_t state_len, const 
     if (no) { printf("refused %d at %d\n", (int)no, (int)place[0]); return 1; }
     printf("Z:");
     for (size_t q = 0; q < N; q++)
-        if (jozkeral_expectation_z(N, state, JOZKERAL_STATE_PLACES(N), tables + JOZKERAL_MODES_AT, JOZKERAL_MAX_QUBITS, q,
-                                   place, 1, z, 1) == JOZKERAL_OK)
+        if (jozkeral_expectation_z_product(N, state, JOZKERAL_STATE_PLACES(N), tables + JOZKERAL_MODES_AT, JOZKERAL_MAX_QUBITS,
+                                           &q, 1, z_work, JOZKERAL_QUERY_PLACES(1), place, 1, z, 1) == JOZKERAL_OK)
             printf(" %g", z[0]);
     printf("\n");
 */

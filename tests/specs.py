@@ -17,8 +17,8 @@ CALLS = {
     "tape": ["label"],
     "detect": ["compile"],
     "gaussian": ["run"],
-    "state": ["apply", "expectation_z"],
-    "queries": ["expectation_z_product", "z_correlation", "marginal_probability", "probability", "sample"],
+    "state": ["apply"],
+    "queries": ["expectation_z_product", "marginal_probability", "probability", "sample"],
     "text": ["print_tape"],
     "engine": None,
 }

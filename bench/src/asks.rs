@@ -16,8 +16,8 @@ const LARGEST: f64 = 1.0 - f64::EPSILON / 2.0;
 pub fn queries(rng: &mut Rng, n: usize) -> Vec<Query> {
     let any = |rng: &mut Rng| if n == 0 { 0 } else { rng.below(n) };
     let mut out = vec![
-        Query::Z(any(rng)),
-        Query::Zz(any(rng), any(rng)),
+        Query::z(any(rng)),
+        Query::Product(vec![any(rng), any(rng)]),
         Query::Product((0..n).collect()),
         Query::Product(listed(rng, n)),
         Query::Probability(index_of(rng.word(), rng.word())),
@@ -62,9 +62,9 @@ fn bits(rng: &mut Rng, qs: &[usize]) -> Vec<bool> {
 fn refused(rng: &mut Rng, n: usize, beyond: usize) -> Query {
     let mut qs = listed(rng, n);
     match rng.below(6) {
-        0 => return Query::Z(beyond),
-        1 => return Query::Zz(0, beyond),
-        2 => return Query::Zz(beyond, beyond),
+        0 => return Query::z(beyond),
+        1 => return Query::Product(vec![0, beyond]),
+        2 => return Query::Product(vec![beyond, beyond]),
         3 if n > 0 => return Query::Marginal((0..n).collect(), vec![false; n - 1]),
         _ => qs.insert(rng.below(qs.len() + 1), beyond),
     }

@@ -51,8 +51,6 @@ impl Slice {
         let state = State { n: self.n, slice: &self.places, modes: &self.modes };
         let mut well = true;
         let answer = match query {
-            Query::Z(q) => state.expectation_z(*q).map(Answer::Value),
-            Query::Zz(i, j) => state.z_correlation(*i, *j, work).map(Answer::Value),
             Query::Product(qs) => state.expectation_z_product(qs, work).map(Answer::Value),
             Query::Marginal(qs, bits) => {
                 let bits: Vec<u8> = bits.iter().map(|&b| b.into()).collect();
@@ -90,8 +88,6 @@ pub fn places(op: &GaussOp) -> Places {
 /// The places of work that question 20 asks for; none if the answer is given before it.
 fn room(n: usize, query: &Query) -> Option<usize> {
     let modes = match query {
-        Query::Z(_) => None,
-        Query::Zz(i, j) => odd(n, &[*i, *j]),
         Query::Product(qs) => odd(n, qs),
         Query::Marginal(qs, bits) => agreeing(n, qs, bits),
         Query::Probability(_) | Query::Sample(..) => Some(n),

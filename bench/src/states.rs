@@ -16,14 +16,17 @@ use original::access::state::access;
 const SMALL: usize = 5;
 
 /// The calls, in the order of `kind`.
-const CALLS: [&str; 7] = ["z", "zz", "z_product", "marginal", "index", "sample", "apply"];
+const CALLS: [&str; 7] =
+    ["z of one", "z of two", "z_product", "marginal", "index", "sample", "apply"];
 const APPLY: usize = 6;
 
 fn kind(query: &Query) -> usize {
     match query {
-        Query::Z(_) => 0,
-        Query::Zz(..) => 1,
-        Query::Product(_) => 2,
+        Query::Product(qs) => match qs.len() {
+            1 => 0,
+            2 => 1,
+            _ => 2,
+        },
         Query::Marginal(..) => 3,
         Query::Probability(_) => 4,
         Query::Sample(..) => 5,

@@ -155,6 +155,11 @@ impl State {
     fn asked(&self) -> c::State<'_> {
         c::State { n: self.n, slice: &self.places, modes: &self.modes }
     }
+
+    /// How many modes a query of a list is about at most.
+    fn most_left(&self, qubits: &[usize]) -> usize {
+        qubits.len().min(self.n)
+    }
 }
 
 /// A tape that was run.
@@ -170,8 +175,7 @@ pub trait Engine {
     fn compile(&self, tape: &[u8]) -> Result<Compiled, Refusal>;
     /// The state after all gates: questions 1 to 15.
     fn run(&self, tape: &[u8]) -> Result<Run, Refusal>;
-    fn expectation_z(&self, state: &State, qubit: usize) -> Result<f64, Refusal>;
-    /// The expectation of a product of Z.
+    /// The expectation of a product of Z, of one qubit that qubit's parity.
     fn expectation_z_product(&self, state: &State, qubits: &[usize]) -> Result<f64, Refusal>;
     /// The probability that the qubits have these bits.
     fn marginal_probability(
@@ -201,11 +205,6 @@ impl Library {
     pub fn apply(&self, state: &mut State, operation: &Operation) -> Result<(), Refusal> {
         c::apply(state.n, &mut state.places, &state.modes, &operation.places())
     }
-
-    /// The expectation of a product of two Z.
-    pub fn z_correlation(&self, s: &State, i: usize, j: usize) -> Result<f64, Refusal> {
-        s.asked().z_correlation(i, j, &mut query_work(s.n))
-    }
 }
 
 impl Engine for Library {
@@ -225,12 +224,8 @@ impl Engine for Library {
         Ok(Run { compiled: compiled(&report, &ops), state })
     }
 
-    fn expectation_z(&self, s: &State, qubit: usize) -> Result<f64, Refusal> {
-        s.asked().expectation_z(qubit)
-    }
-
     fn expectation_z_product(&self, s: &State, qubits: &[usize]) -> Result<f64, Refusal> {
-        s.asked().expectation_z_product(qubits, &mut query_work(s.n))
+        s.asked().expectation_z_product(qubits, &mut query_work(s.most_left(qubits)))
     }
 
     fn marginal_probability(
@@ -239,7 +234,7 @@ impl Engine for Library {
         qubits: &[usize],
         bits: &[u8],
     ) -> Result<f64, Refusal> {
-        s.asked().marginal_probability(qubits, bits, &mut query_work(s.n))
+        s.asked().marginal_probability(qubits, bits, &mut query_work(s.most_left(qubits)))
     }
 
     fn probability(&self, s: &State, index: u128) -> Result<f64, Refusal> {
@@ -254,9 +249,9 @@ impl Engine for Library {
     }
 }
 
-/// Work for any query.
-fn query_work(n: usize) -> Vec<f64> {
-    vec![0.0; query_places(n.min(MAX_QUBITS))]
+/// Work for a query that so many modes are left to at most.
+fn query_work(modes: usize) -> Vec<f64> {
+    vec![0.0; query_places(modes.min(MAX_QUBITS))]
 }
 
 /// What is lent to compile or run a tape, with room for the largest: questions 9 and 10.

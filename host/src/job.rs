@@ -96,7 +96,7 @@ pub fn run(source: &Source, queries: &[Query], engine: &dyn Engine) -> Result<Ou
         Ok(run) => {
             let state = run.state;
             let impossible = |r: Refusal| refusals::tools_fault(r.number);
-            let z = |q| engine.expectation_z(&state, q).map_err(impossible);
+            let z = |q| engine.expectation_z_product(&state, &[q]).map_err(impossible);
             let parities = (0..state.n()).map(z).collect::<Result<_, _>>()?;
             let queries = queries.iter().map(|q| q.ask(engine, &state)).collect();
             let answers = Answers { state, parities, queries };

@@ -6,7 +6,7 @@
 //!
 //! let list = list::read("qubits 2\nx 0\niswap 0 1\n", &[]).expect("a gate list");
 //! let run = Library.run(&list.tape()).expect("a free-fermion circuit");
-//! assert_eq!(Library.expectation_z(&run.state, 1), Ok(-1.0));
+//! assert_eq!(Library.expectation_z_product(&run.state, &[1]), Ok(-1.0));
 //! ```
 
 pub mod draws;

@@ -129,20 +129,6 @@ pub fn apply(n: usize, state: &mut [f64], modes: &[u16], op: &[f64]) -> Result<(
 }
 
 impl State<'_> {
-    pub fn expectation_z(&self, q: usize) -> Result<f64, Refusal> {
-        let (mut place, mut answer) = ([u64::MAX], [f64::NAN]);
-        let number = call!(jozkeral_expectation_z: n self.n, r self.slice, r self.modes, n q,
-            w place, w answer,);
-        told(number, place, answer[0])
-    }
-
-    pub fn z_correlation(&self, i: usize, j: usize, work: &mut [f64]) -> Result<f64, Refusal> {
-        let (mut place, mut answer) = ([u64::MAX], [f64::NAN]);
-        let number = call!(jozkeral_z_correlation: n self.n, r self.slice, r self.modes, n i, n j,
-            w work, w place, w answer,);
-        told(number, place, answer[0])
-    }
-
     pub fn expectation_z_product(
         &self,
         qubits: &[usize],
@@ -216,14 +202,6 @@ mod symbols {
         ) -> u64;
         pub fn jozkeral_apply(
             n: usize, state: W<f64>, _: L, modes: R<u16>, _: L, op: R<f64>, _: L,
-        ) -> u64;
-        pub fn jozkeral_z_correlation(
-            n: usize, state: R<f64>, _: L, modes: R<u16>, _: L, i: usize, j: usize,
-            work: W<f64>, _: L, place: W<u64>, _: L, answer: W<f64>, _: L,
-        ) -> u64;
-        pub fn jozkeral_expectation_z(
-            n: usize, state: R<f64>, _: L, modes: R<u16>, _: L, q: usize,
-            place: W<u64>, _: L, answer: W<f64>, _: L,
         ) -> u64;
         pub fn jozkeral_expectation_z_product(
             n: usize, state: R<f64>, _: L, modes: R<u16>, _: L, qubits: R<usize>, _: L,

@@ -24,7 +24,8 @@ fn a_run_is_its_operations() {
         Library.apply(&mut state, operation).expect("an operation of the run");
     }
     for q in 0..5 {
-        assert_eq!(Library.expectation_z(&state, q), Library.expectation_z(&run.state, q));
+        let z = |state| Library.expectation_z_product(state, &[q]);
+        assert_eq!(z(&state), z(&run.state));
     }
     assert_eq!(Library.sample(&state, 2, &[0.4; 10]), Library.sample(&run.state, 2, &[0.4; 10]));
 }
@@ -32,9 +33,19 @@ fn a_run_is_its_operations() {
 #[test]
 fn queries_agree() {
     let state = Library.run(&tape(LIST)).expect("a run").state;
-    let pair = Library.z_correlation(&state, 1, 3).expect("a pair");
-    assert_eq!(Library.expectation_z_product(&state, &[1, 3]), Ok(pair));
-    assert_eq!(Library.expectation_z_product(&state, &[]), Ok(1.0));
+    let product = |list: &[usize]| Library.expectation_z_product(&state, list).expect("qubits");
+    let read = |list: &[usize], bits: &[u8]| {
+        Library.marginal_probability(&state, list, bits).expect("qubits with bits")
+    };
+    for q in 0..5 {
+        let z = read(&[q], &[0]) - read(&[q], &[1]);
+        assert!((product(&[q]) - z).abs() < 1e-12, "{z}");
+    }
+    let even = read(&[1, 3], &[0, 0]) + read(&[1, 3], &[1, 1]);
+    let odd = read(&[1, 3], &[0, 1]) + read(&[1, 3], &[1, 0]);
+    assert!((product(&[1, 3]) - (even - odd)).abs() < 1e-12, "{even} {odd}");
+    assert_eq!(product(&[3, 1]), product(&[1, 3]));
+    assert_eq!(product(&[]), 1.0);
     let index = 0b10110;
     let (qubits, bits) = ([0, 1, 2, 3, 4], [0, 1, 1, 0, 1]);
     assert_eq!(
@@ -45,12 +56,36 @@ fn queries_agree() {
     assert!((all - 1.0).abs() < 1e-12, "{all}");
 }
 
+/// There is work for every list, whatever is left of it.
+#[test]
+fn lists_of_any_length() {
+    let state = Library.run(&tape(LIST)).expect("a run").state;
+    for set in 0..32 {
+        let list: Vec<usize> = (0..5).filter(|q| set >> q & 1 == 1).collect();
+        let bits = vec![0; list.len()];
+        let product = Library.expectation_z_product(&state, &list);
+        let marginal = Library.marginal_probability(&state, &list, &bits);
+        assert!(product.is_ok() && marginal.is_ok(), "{list:?}");
+        let more = [&list[..], &[0, 1, 2, 3, 4], &[4, 3, 2, 1, 0]].concat();
+        assert_eq!(Library.expectation_z_product(&state, &more), product);
+        let (twice, bits) = (list.repeat(2), bits.repeat(2));
+        assert_eq!(Library.expectation_z_product(&state, &twice), Ok(1.0));
+        assert_eq!(Library.marginal_probability(&state, &twice, &bits), marginal);
+    }
+    let none = State::vacuum(0);
+    assert_eq!(Library.expectation_z_product(&none, &[]), Ok(1.0));
+    assert_eq!(Library.marginal_probability(&none, &[], &[]), Ok(1.0));
+}
+
 #[test]
 fn refusals_have_number_and_place() {
     let mut state = Library.run(&tape(LIST)).expect("a run").state;
     let refused = |number, place| Err(Refusal { number, place });
-    assert_eq!(Library.expectation_z(&state, 5), refused(19, 0));
+    assert_eq!(Library.expectation_z_product(&State::vacuum(129), &[0]), refused(16, 0));
+    assert_eq!(Library.expectation_z_product(&state, &[5]), refused(19, 0));
+    assert_eq!(Library.expectation_z_product(&state, &[3, 5]), refused(19, 1));
     assert_eq!(Library.expectation_z_product(&state, &[0, 1, 9]), refused(19, 2));
+    assert_eq!(Library.expectation_z_product(&State::vacuum(0), &[0]), refused(19, 0));
     assert_eq!(Library.marginal_probability(&state, &[0], &[2]), refused(18, 0));
     assert_eq!(Library.sample(&state, 1, &[0.5; 4]).err(), Some(Refusal { number: 21, place: 0 }));
     let two = Operation::Two { mode: 4, map: [0.0; 16] };
@@ -78,5 +113,9 @@ fn room_for_the_largest() {
         (0..1024).map(|k| format!("cphase {} {} 0.3\n", k % 127, k % 127 + 1)).collect();
     assert_eq!(Library.run(&tape(&layers(&phases))).err(), None);
     let flips: String = (0..1024).map(|k| format!("iswap {} {}\n", k % 127, k % 127 + 1)).collect();
-    assert_eq!(Library.run(&tape(&layers(&flips))).err(), None);
+    let state = Library.run(&tape(&layers(&flips))).expect("a run").state;
+    let all: Vec<usize> = (0..128).collect();
+    assert_eq!(Library.expectation_z_product(&state, &all), Ok(1.0));
+    assert_eq!(Library.marginal_probability(&state, &all, &[0; 128]), Ok(1.0));
+    assert_eq!(Library.expectation_z_product(&state, &[127]), Ok(1.0));
 }

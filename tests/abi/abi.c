@@ -356,10 +356,6 @@ static void test_queries(void) {
     struct slice w = lend(8, WORK + 3), p = lend(8, 2), a = lend(8, 2);
     uint64_t *place = at(&p);
     double *answer = at(&a), *work = at(&w);
-    const double z[3] = {1.0, -1.0, -1.0};
-    for (size_t q = 0; q < 3; q++) CHECK(jozkeral_expectation_z(3, s, ns, m, MODES, q, place, 2, answer, 2) == 0 && answer[0] == z[q] && place[0] == 0);
-    CHECK(jozkeral_z_correlation(3, s, ns, m, MODES, 1, 2, work, w.len, place, 2, answer, 2) == 0 && answer[0] == 1.0);
-    CHECK(cleared(&w, JOZKERAL_QUERY_PLACES(2)));
     CHECK(jozkeral_expectation_z_product(3, s, ns, m, MODES, qs, 4, work, w.len, place, 2, answer, 2) == 0 && answer[0] == -1.0);
     CHECK(jozkeral_expectation_z_product(3, s, ns, m, MODES, NULL, 0, NULL, 0, place, 2, answer, 2) == 0 && answer[0] == 1.0);
     CHECK(jozkeral_marginal_probability(3, s, ns, m, MODES, qs, 4, bits, 4, work, w.len, place, 2, answer, 2) == 0 && answer[0] == 1.0);
@@ -369,14 +365,8 @@ static void test_queries(void) {
     CHECK(jozkeral_probability(3, s, ns, m, MODES, 7, 0, work, w.len, answer, 2) == 0 && answer[0] == 0.0);
     CHECK(cleared(&w, WORK) && untouched_from(&p, 1) && untouched_from(&a, 1));
     /* refusals */
-    CHECK(jozkeral_expectation_z(129, s, ns, m, MODES, 0, place, 2, answer, 2) == JOZKERAL_BAD_STATE && answer[0] == 0.0 && place[0] == 0);
-    CHECK(jozkeral_expectation_z(3, s, STATE - 1, m, MODES, 0, place, 2, answer, 2) == JOZKERAL_BAD_STATE);
-    CHECK(jozkeral_expectation_z(3, s, ns, m, 2, 0, place, 2, answer, 2) == JOZKERAL_BAD_STATE);
-    answer[0] = 5.0;
-    CHECK(jozkeral_expectation_z(3, s, ns, m, MODES, 3, place, 2, answer, 2) == JOZKERAL_LISTED && answer[0] == 0.0 && place[0] == 0);
-    CHECK(jozkeral_z_correlation(3, s, ns, m, MODES, 1, 3, work, w.len, place, 2, answer, 2) == JOZKERAL_LISTED && place[0] == 1);
-    CHECK(jozkeral_expectation_z_product(3, s, ns, m, MODES, bad, 3, work, w.len, place, 2, answer, 2) == JOZKERAL_LISTED && place[0] == 1);
-    CHECK(jozkeral_expectation_z_product(3, s, ns, m, MODES, qs, 3, work, WORK - 1, place, 2, answer, 2) == JOZKERAL_QUERY_WORK && place[0] == 0);
+    CHECK(jozkeral_expectation_z_product(3, s, STATE - 1, m, MODES, qs, 1, work, w.len, place, 2, answer, 2) == JOZKERAL_BAD_STATE);
+    CHECK(jozkeral_expectation_z_product(3, s, ns, m, 2, qs, 1, work, w.len, place, 2, answer, 2) == JOZKERAL_BAD_STATE);
     CHECK(jozkeral_marginal_probability(3, s, ns, m, MODES, qs, 3, bits, 2, work, w.len, place, 2, answer, 2) == JOZKERAL_BITS);
     CHECK(jozkeral_marginal_probability(3, s, ns, m, MODES, qs, 3, twos, 3, work, w.len, place, 2, answer, 2) == JOZKERAL_BITS);
     CHECK(jozkeral_marginal_probability(3, s, ns, m, MODES, bad, 3, bits, 3, work, w.len, place, 2, answer, 2) == JOZKERAL_LISTED && place[0] == 1);
@@ -385,9 +375,7 @@ static void test_queries(void) {
     place[0] = 3;
     answer[0] = 4.0;
     work[0] = 1.0;
-    CHECK(jozkeral_expectation_z(3, s, ns, m, MODES, 0, place, 0, answer, 2) == JOZKERAL_NO_ROOM);
-    CHECK(jozkeral_expectation_z(3, s, ns, m, MODES, 0, place, 2, answer, 0) == JOZKERAL_NO_ROOM);
-    CHECK(jozkeral_z_correlation(3, s, ns, m, MODES, 1, 2, work, w.len, NULL, 0, answer, 2) == JOZKERAL_NO_ROOM);
+    CHECK(jozkeral_expectation_z_product(3, s, ns, m, MODES, qs + 1, 2, work, w.len, NULL, 0, answer, 2) == JOZKERAL_NO_ROOM);
     CHECK(jozkeral_expectation_z_product(3, s, ns, m, MODES, qs, 4, work, w.len, place, 2, NULL, 0) == JOZKERAL_NO_ROOM);
     CHECK(jozkeral_marginal_probability(3, s, ns, m, MODES, qs, 4, bits, 4, work, w.len, place, 0, answer, 2) == JOZKERAL_NO_ROOM);
     CHECK(jozkeral_probability(3, s, ns, m, MODES, 6, 0, work, w.len, answer, 0) == JOZKERAL_NO_ROOM);
@@ -397,6 +385,116 @@ static void test_queries(void) {
     free(p.room);
     free(a.room);
     give_back(&l);
+}
+
+/* ---- products of Z on the same state: which question is asked first, how many places of work it asks for, what is left in each slice */
+
+struct product {
+    int line;
+    size_t n, places, count, qubits[4]; /* of the state, of work, of the list */
+    uint64_t number, place;
+    double value;
+    size_t zeros; /* places of work that are zero afterwards; the others are as they were lent */
+};
+
+static const struct product products[] = {
+    /* one qubit asks for four places */
+    {__LINE__, 3, 3, 1, {1}, JOZKERAL_QUERY_WORK, 0, 0.0, 0},
+    {__LINE__, 3, 4, 1, {1}, JOZKERAL_OK, 0, -1.0, 4},
+    {__LINE__, 3, 9, 1, {0}, JOZKERAL_OK, 0, 1.0, 4},
+    {__LINE__, 3, 4, 1, {2}, JOZKERAL_OK, 0, -1.0, 4},
+    {__LINE__, 3, 3, 3, {1, 1, 1}, JOZKERAL_QUERY_WORK, 0, 0.0, 0},
+    {__LINE__, 3, 4, 3, {1, 1, 1}, JOZKERAL_OK, 0, -1.0, 4},
+    {__LINE__, 3, 4, 3, {0, 2, 0}, JOZKERAL_OK, 0, -1.0, 4},
+    /* two ask for 16, three for 36 */
+    {__LINE__, 3, 15, 2, {0, 2}, JOZKERAL_QUERY_WORK, 0, 0.0, 0},
+    {__LINE__, 3, 16, 2, {0, 2}, JOZKERAL_OK, 0, -1.0, 16},
+    {__LINE__, 3, 16, 2, {2, 0}, JOZKERAL_OK, 0, -1.0, 16},
+    {__LINE__, 3, 39, 2, {1, 2}, JOZKERAL_OK, 0, 1.0, 16},
+    {__LINE__, 3, 35, 3, {0, 1, 2}, JOZKERAL_QUERY_WORK, 0, 0.0, 0},
+    {__LINE__, 3, 36, 3, {0, 1, 2}, JOZKERAL_OK, 0, 1.0, 36},
+    /* a pair that cancels asks for none, and so does the empty list */
+    {__LINE__, 3, 0, 2, {1, 1}, JOZKERAL_OK, 0, 1.0, 0},
+    {__LINE__, 3, 4, 2, {1, 1}, JOZKERAL_OK, 0, 1.0, 0},
+    {__LINE__, 3, 0, 4, {1, 2, 1, 2}, JOZKERAL_OK, 0, 1.0, 0},
+    {__LINE__, 3, 0, 0, {0}, JOZKERAL_OK, 0, 1.0, 0},
+    {__LINE__, 3, 4, 0, {0}, JOZKERAL_OK, 0, 1.0, 0},
+    /* 19 before 20, with the index in the list; what is no qubit does not cancel */
+    {__LINE__, 3, 0, 1, {3}, JOZKERAL_LISTED, 0, 0.0, 0},
+    {__LINE__, 3, 4, 1, {SIZE_MAX}, JOZKERAL_LISTED, 0, 0.0, 0},
+    {__LINE__, 3, 0, 2, {1, 3}, JOZKERAL_LISTED, 1, 0.0, 0},
+    {__LINE__, 3, 16, 2, {1, 3}, JOZKERAL_LISTED, 1, 0.0, 0},
+    {__LINE__, 3, 16, 4, {1, 1, 3, 3}, JOZKERAL_LISTED, 2, 0.0, 0},
+    {__LINE__, 3, 36, 3, {0, 9, 1}, JOZKERAL_LISTED, 1, 0.0, 0},
+    /* 16 before 19 */
+    {__LINE__, 4, 0, 1, {9}, JOZKERAL_BAD_STATE, 0, 0.0, 0},
+    {__LINE__, 129, 4, 1, {0}, JOZKERAL_BAD_STATE, 0, 0.0, 0},
+    {__LINE__, 129, 0, 0, {0}, JOZKERAL_BAD_STATE, 0, 0.0, 0},
+};
+
+static int same(double x, double y) { return !memcmp(&x, &y, sizeof x); }
+
+/* asks for a product with so much room for its place and its answer: as the row says, and where there is no room 99 and nothing written */
+static void check_product(const struct lent *l, const struct product *row, size_t place_room, size_t answer_room) {
+    const uint16_t *m = (const uint16_t *)at(&l->tables) + JOZKERAL_MODES_AT;
+    struct slice w = lend(8, row->places), p = lend(8, place_room), a = lend(8, answer_room);
+    uint64_t number = jozkeral_expectation_z_product(row->n, at(&l->state), l->state.len, m, MODES, row->qubits, row->count, at(&w), w.len, at(&p),
+                                                     p.len, at(&a), a.len);
+    if (place_room == 0 || answer_room == 0) {
+        check(number == JOZKERAL_NO_ROOM, "a product without room", row->line);
+        check(untouched(&w) && untouched(&p) && untouched(&a), "a product without room leaves all slices", row->line);
+    } else {
+        check(number == row->number, "the number of a product", row->line);
+        check(((uint64_t *)at(&p))[0] == row->place && untouched_from(&p, 1), "the place of a product", row->line);
+        check(same(((double *)at(&a))[0], row->value) && untouched_from(&a, 1), "the value of a product", row->line);
+        check(cleared(&w, row->zeros), "what a product leaves in work", row->line);
+    }
+    free(w.room);
+    free(p.room);
+    free(a.room);
+}
+
+static void test_products(void) {
+    struct lent l = state_of_bits(), kept = state_of_bits();
+    for (size_t i = 0; i < sizeof products / sizeof *products; i++) {
+        check_product(&l, &products[i], 1, 1);
+        check_product(&l, &products[i], 3, 2);
+        check_product(&l, &products[i], 0, 1);
+        check_product(&l, &products[i], 1, 0);
+        check_product(&l, &products[i], 0, 0);
+    }
+    CHECK(!memcmp(l.state.room, kept.state.room, 2 * MARGIN + 8 * l.state.len));
+    CHECK(!memcmp(l.tables.room, kept.tables.room, 2 * MARGIN + 2 * l.tables.len));
+    give_back(&l);
+    give_back(&kept);
+}
+
+/* the product over the first k qubits of a state of two whose modes are exchanged: Z of qubit 0 is z0 times the sign, of qubit 1 it is z1 */
+static double product_of(size_t k, double z0, double z1, double sign) {
+    const size_t qubits[2] = {0, 1};
+    const uint16_t modes[2] = {1, 0};
+    const double state[JOZKERAL_STATE_PLACES(2)] = {[1] = z1, [4] = -z1, [11] = z0, [14] = -z0, [16] = 1.0, [17] = 1.0, [18] = sign, [19] = 1.0};
+    double work[JOZKERAL_QUERY_PLACES(2)], answer[1] = {7.0};
+    uint64_t place[1];
+    CHECK(jozkeral_expectation_z_product(2, state, JOZKERAL_STATE_PLACES(2), modes, 2, qubits, k, work, JOZKERAL_QUERY_PLACES(k), place, 1, answer, 1) == 0);
+    return answer[0];
+}
+
+/* the product over one qubit is its entry with the signs, in every bit, but that -0.0 is told +0.0 */
+static void test_bits_of_one(void) {
+    const double tiny = 0x1p-1074, huge = 1.0 / 0.0, entries[] = {1.0, 0.75, 1.0 / 3.0, tiny, 3 * tiny, 0x1p1023, huge};
+    for (size_t i = 0; i < sizeof entries / sizeof *entries; i++) {
+        const double z = entries[i];
+        CHECK(same(product_of(1, z, 0.5, 1.0), z) && same(product_of(1, -z, 0.5, 1.0), -z));
+        CHECK(same(product_of(1, z, 0.5, -1.0), -z) && same(product_of(1, -z, 0.5, -1.0), z));
+    }
+    const double nan = huge - huge, z = product_of(1, nan, 0.5, 1.0);
+    CHECK(z != z);
+    CHECK(same(product_of(1, 0.0, 0.5, 1.0), 0.0) && same(product_of(1, -0.0, 0.5, 1.0), 0.0));
+    CHECK(same(product_of(1, 0.0, 0.5, -1.0), 0.0) && same(product_of(1, -0.0, 0.5, -1.0), 0.0));
+    /* and so over two where the search for a pivot ends at zero; a product that is too small for a float has its sign */
+    CHECK(same(product_of(2, -0.0, 0.5, 1.0), 0.0) && same(product_of(2, 0.5, -0.0, 1.0), 0.0));
+    CHECK(same(product_of(2, 0.5, -0.25, -1.0), 0.125) && same(product_of(2, 0x1p-600, -0x1p-600, 1.0), -0.0));
 }
 
 static void test_samples(void) {
@@ -427,7 +525,7 @@ static void test_samples(void) {
 
 static void test_apply(void) {
     struct lent l = state_of_bits();
-    double *s = at(&l.state), op[JOZKERAL_OP_PLACES] = {1.0, 1.0, 1.0, 0.0, 0.0, -1.0}, z[1];
+    double *s = at(&l.state), op[JOZKERAL_OP_PLACES] = {1.0, 1.0, 1.0, 0.0, 0.0, -1.0}, work[JOZKERAL_QUERY_PLACES(1)], z[1];
     const uint16_t *m = (const uint16_t *)at(&l.tables) + JOZKERAL_MODES_AT;
     uint64_t place[1];
     CHECK(jozkeral_apply(3, s, l.state.len, m, MODES, op, JOZKERAL_OP_PLACES - 1) == JOZKERAL_OPERATION);
@@ -441,8 +539,8 @@ static void test_apply(void) {
     op[0] = 1.0;
     op[1] = m[0]; /* a map of determinant -1 on the mode of qubit 0 turns its Z, and no other */
     CHECK(jozkeral_apply(3, s, l.state.len, m, MODES, op, JOZKERAL_OP_PLACES) == 0);
-    CHECK(jozkeral_expectation_z(3, s, l.state.len, m, MODES, 0, place, 1, z, 1) == 0 && z[0] == -1.0);
-    CHECK(jozkeral_expectation_z(3, s, l.state.len, m, MODES, 1, place, 1, z, 1) == 0 && z[0] == -1.0);
+    for (size_t q = 0; q < 2; q++)
+        CHECK(jozkeral_expectation_z_product(3, s, l.state.len, m, MODES, &q, 1, work, JOZKERAL_QUERY_PLACES(1), place, 1, z, 1) == 0 && z[0] == -1.0);
     CHECK(untouched_from(&l.state, STATE));
     give_back(&l);
 }
@@ -455,6 +553,8 @@ int main(void) {
     test_report();
     test_compile();
     test_queries();
+    test_products();
+    test_bits_of_one();
     test_samples();
     test_apply();
     printf("abi.c: %d checks, %d failed\n", checks, failures);

@@ -169,15 +169,32 @@ fn agree(r: &mut Rng, s: State) {
     let p = s.probability(index, r.next(), &mut work).unwrap();
     assert_eq!(p.to_bits(), s.marginal_probability(&all, &bits, &mut work).unwrap().to_bits());
     let (i, j) = (r.below(s.n), r.below(s.n));
-    let zz = s.z_correlation(i, j, &mut work).unwrap();
-    assert_eq!(zz.to_bits(), s.expectation_z_product(&[i, j], &mut work).unwrap().to_bits());
-    assert_eq!(
-        s.expectation_z(i).unwrap(),
-        s.expectation_z_product(&[j, i, j], &mut work).unwrap()
-    );
-    assert_eq!(s.expectation_z(s.n), Err(Refusal { number: 19, place: 0 }));
-    assert_eq!(s.z_correlation(i, s.n, &mut work), Err(Refusal { number: 19, place: 1 }));
+    let mut product = |list: &[usize]| s.expectation_z_product(list, &mut work);
+    let (z, zz) = (product(&[i]).unwrap().to_bits(), product(&[i, j]).unwrap().to_bits());
+    assert_eq!(z, entry(s, i).to_bits());
+    assert_eq!(z, product(&[j, i, j]).unwrap().to_bits());
+    assert_eq!(zz, product(&[j, i]).unwrap().to_bits());
+    assert_eq!(zz, product(&[i, i, j, i]).unwrap().to_bits());
+    assert_eq!(product(&[s.n]), Err(Refusal { number: 19, place: 0 }));
+    assert_eq!(product(&[i, s.n]), Err(Refusal { number: 19, place: 1 }));
     assert!(work.iter().take(4).all(|x| x.to_bits() == 0));
+    let mut few = [3.0; query_places(1)];
+    let refused = Err(Refusal { number: 20, place: 0 });
+    assert_eq!((s.expectation_z_product(&[i], &mut few[1..]), few), (refused, [3.0; 4]));
+    assert_eq!(s.expectation_z_product(&[i], &mut few).unwrap().to_bits(), z);
+    assert_eq!(few.map(f64::to_bits), [0; 4]);
+}
+
+/// Z of a qubit as the state has it: its entry times both signs, a zero without a sign.
+fn entry(s: State, q: usize) -> f64 {
+    let row = 2 * usize::from(s.modes[q]);
+    let (matrix, signs) = s.slice.split_at(covariance_places(s.n));
+    let z = matrix[2 * s.n * row + row + 1] * signs[row] * signs[row + 1];
+    if z == 0.0 {
+        0.0
+    } else {
+        z
+    }
 }
 
 /// The bit register's answers.
@@ -185,7 +202,7 @@ fn register(r: &mut Rng, s: State, bits: &[bool]) {
     let mut work = vec![3.0; query_places(s.n)];
     let sign = |b: bool| if b { -1.0 } else { 1.0 };
     for (q, b) in bits.iter().enumerate() {
-        assert_eq!(s.expectation_z(q), Ok(sign(*b)));
+        assert_eq!(s.expectation_z_product(&[q], &mut work), Ok(sign(*b)));
     }
     let list: Vec<usize> = (0..r.below(9)).map(|_| r.below(s.n)).collect();
     let odd = list.iter().filter(|q| bits[**q]).count() % 2 == 1;

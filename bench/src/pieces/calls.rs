@@ -65,7 +65,7 @@ pub fn pieces(rng: &mut Rng, each: Each) {
         {
             both.applies(rng, &format!("apply {name}, n = {n}"), kind, each);
         }
-        both.z(&format!("z, n = {n}"), each);
+        both.product_of_one(&format!("product of one, n = {n}"), each);
         both.product(&format!("product of all, n = {n}"), each);
         both.index(&format!("basis index, n = {n}"), each);
         both.shot(rng, &format!("shot, n = {n}"), each);
@@ -132,18 +132,20 @@ impl Both {
     }
 
     /// Z of each qubit.
-    fn z(&self, name: &str, each: Each) {
+    fn product_of_one(&self, name: &str, each: Each) {
+        let mut work = [0.0; query_places(1)];
         each(Piece {
             name,
             calls: self.n,
             original: &mut || {
                 for q in 0..self.n {
-                    black_box(self.original.expectation_z(q).expect("a good qubit"));
+                    black_box(self.original.expectation_z_product(&[q]).expect("a good qubit"));
                 }
             },
             port: &mut || {
                 for q in 0..self.n {
-                    black_box(self.asked().expectation_z(q).expect("a good qubit"));
+                    let product = self.asked().expectation_z_product(&[q], &mut work);
+                    black_box(product.expect("a good qubit"));
                 }
             },
         });

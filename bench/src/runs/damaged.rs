@@ -145,7 +145,7 @@ fn is_refused(bytes: &[u8], refused: Refused) -> bool {
 /// A list with the tape's header and without its gates; Z of a few qubits, and queries of every kind.
 fn header(rng: &mut Rng, tape: &Tape) -> List {
     let &Tape { n, flags, tol, limit, .. } = tape;
-    let mut queries: Vec<Query> = (0..n.min(4)).map(Query::Z).collect();
+    let mut queries: Vec<Query> = (0..n.min(4)).map(Query::z).collect();
     queries.extend(asks::queries(rng, n));
     List { n, flags, tol, limit, gates: vec![], queries }
 }

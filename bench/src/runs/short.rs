@@ -46,8 +46,8 @@ fn gates(n: usize) -> Vec<Gate> {
 /// Every Z, every product of two, the product of all, some with qubits repeated; every basis index, with bits from n upward
 /// beside it; marginals of one and of two qubits, one that contradicts itself; shots.
 fn queries(n: usize) -> Vec<Query> {
-    let mut out: Vec<Query> = (0..n).map(Query::Z).collect();
-    out.extend((0..n).flat_map(|j| (0..=j).map(move |i| Query::Zz(i, j))));
+    let mut out: Vec<Query> = (0..n).map(Query::z).collect();
+    out.extend((0..n).flat_map(|j| (0..=j).map(move |i| Query::Product(vec![i, j]))));
     let all: Vec<usize> = (0..n).collect();
     out.push(Query::Product([&all[..], &all[n.min(1)..]].concat()));
     out.push(Query::Product(all));

@@ -26,7 +26,7 @@ impl Signs {
     /// A list without interactions.
     pub fn add(&mut self, ran: &Ran) {
         let (n, modes) = (ran.slice.n, ran.slice.mode_of_qubit());
-        let port = |q: usize| match ran.slice.ask(&Query::Z(q)).0 {
+        let port = |q: usize| match ran.slice.ask(&Query::z(q)).0 {
             Answer::Value(x) => x,
             _ => f64::NAN,
         };

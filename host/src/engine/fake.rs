@@ -12,7 +12,7 @@ pub struct Fake {
     pub number: Option<u64>,
     pub accepted: u64,
     pub parities: Vec<f64>,
-    /// Refuses every Z, which no engine may.
+    /// Refuses every listed qubit, which no engine may.
     pub silent: bool,
 }
 
@@ -84,15 +84,8 @@ impl Engine for Fake {
         }
     }
 
-    fn expectation_z(&self, _: &State, qubit: usize) -> Result<f64, Refusal> {
-        match self.silent {
-            true => Err(Refusal { number: question::LISTED, place: 0 }),
-            false => Ok(self.parities[qubit]),
-        }
-    }
-
     fn expectation_z_product(&self, state: &State, qubits: &[usize]) -> Result<f64, Refusal> {
-        match qubits.iter().position(|q| *q >= state.n) {
+        match qubits.iter().position(|q| self.silent || *q >= state.n) {
             Some(place) => Err(Refusal { number: question::LISTED, place: place as u64 }),
             None => Ok(qubits.iter().map(|q| self.parities[*q]).product()),
         }
