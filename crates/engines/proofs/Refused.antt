@@ -56,7 +56,8 @@ use Rattle.gaussian.specs.Claim.{left_by, RightRun, Suffice, RegisterClaim}
 use Rattle.gaussian.proofs.Accepted.{passed-asked}
 use Rattle.gaussian.proofs.Claim.{suffice-passes, register-claim}
 use Rattle.gaussian.proofs.Edges.{tape, x0, headed, only, x_on0, parses, PlainRegister, no-gate, one-x, plain-register}
-use Rattle.engines.specs.Engines.{asked_by, never_room, no_room, is_product, is_marginal, is_probability, is_sample, Engine, Claimed, state_by, run_by, own_engine, vacuum_engine, first_engine, parity_engine, twelve_engine}
+use Rattle.engines.specs.Engines.{Engine, Claimed, state_by, run_by, asked_by, own_engine, vacuum_engine, first_engine, parity_engine, twelve_engine}
+use Rattle.engines.specs.Engines.{never_room, no_room}
 
 -- ---- the engine
 
@@ -288,15 +289,15 @@ unanswered a q p never claim =
     ((claimed (asked_by a) claim (subst (λ (n : ℕ). n ≡ 0) refl given-none) own-lent q).answered p))
 
 -- to all queries, or to those of one kind
-no-room : ¬ Claimed (asked_by never_room) × ¬ Claimed (asked_by (no_room is_product)) × ¬ Claimed (asked_by (no_room is_marginal))
-    × ¬ Claimed (asked_by (no_room is_probability)) × ¬ Claimed (asked_by (no_room is_sample))
+no-room : ¬ Claimed (asked_by never_room) × ¬ Claimed (asked_by (no_room 0)) × ¬ Claimed (asked_by (no_room 1))
+    × ¬ Claimed (asked_by (no_room 2)) × ¬ Claimed (asked_by (no_room 3))
 unfolding bad_place stop_place first_from bits_ok noted all_below
 no-room = (
   unanswered never_room z1 suffices.0 (λ s modes. never (state_ok 2 s modes)),
-  unanswered (no_room is_product) z1 suffices.0 (λ s modes. never (state_ok 2 s modes)),
-  unanswered (no_room is_marginal) marginal0 suffices.1 (λ s modes. never (state_ok 2 s modes)),
-  unanswered (no_room is_probability) index3 suffices.2 (λ s modes. never (state_ok 2 s modes)),
-  unanswered (no_room is_sample) shot suffices.3 (λ s modes. never (state_ok 2 s modes)),
+  unanswered (no_room 0) z1 suffices.0 (λ s modes. never (state_ok 2 s modes)),
+  unanswered (no_room 1) marginal0 suffices.1 (λ s modes. never (state_ok 2 s modes)),
+  unanswered (no_room 2) index3 suffices.2 (λ s modes. never (state_ok 2 s modes)),
+  unanswered (no_room 3) shot suffices.3 (λ s modes. never (state_ok 2 s modes)),
 )
   where
     never : (t : Bool) → (cond t (Answers.refused 20 0) (Answers.refused 16 0)).number ≢ 0

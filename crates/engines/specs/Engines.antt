@@ -1,6 +1,6 @@
 -- Engines that the register claim is asked of: the engine's own run and answers, and some that are wrong in one way each. Assumes nothing.
 -- A public promise rests on this.
-use Rattle.std.specs.Prelude.{Bool, true, false, cond, List, [], ℕ, ltb, length, take, Float}
+use Rattle.std.specs.Prelude.{cond, List, [], ℕ, eqb, ltb, length, take, Float}
 use Rattle.laws.specs.Zeros.{+1}
 use Rattle.detect.specs.Operation.{Operation}
 use Rattle.detect.specs.Compile.{program_of}
@@ -80,32 +80,13 @@ never_room n s modes (marginal qs xs w) =
 never_room n s modes (probability low high w) = number (cond (state_ok n s modes) (refused 20 0) (refused 16 0))
 never_room n s modes (sample shots draws w out) = record { told = cond (state_ok n s modes) (refused 20 0) (refused 16 0); out = out }
 
--- the same to the queries that `some` picks; the others it answers as the engine does
-abbrev pub no_room : (Query → Bool) → Ask
-no_room some n s modes q = cond (some q) (never_room n s modes q) (answer n s modes q)
+-- the kinds of queries
+abbrev pub kind : Query → ℕ
+kind (product qs w) = 0
+kind (marginal qs xs w) = 1
+kind (probability low high w) = 2
+kind (sample shots draws w out) = 3
 
--- ---- queries of one kind
-
-abbrev pub is_product : Query → Bool
-is_product (product qs w) = true
-is_product (marginal qs xs w) = false
-is_product (probability low high w) = false
-is_product (sample shots draws w out) = false
-
-abbrev pub is_marginal : Query → Bool
-is_marginal (product qs w) = false
-is_marginal (marginal qs xs w) = true
-is_marginal (probability low high w) = false
-is_marginal (sample shots draws w out) = false
-
-abbrev pub is_probability : Query → Bool
-is_probability (product qs w) = false
-is_probability (marginal qs xs w) = false
-is_probability (probability low high w) = true
-is_probability (sample shots draws w out) = false
-
-abbrev pub is_sample : Query → Bool
-is_sample (product qs w) = false
-is_sample (marginal qs xs w) = false
-is_sample (probability low high w) = false
-is_sample (sample shots draws w out) = true
+-- the same to the queries of kind k; the others it answers as the engine does
+abbrev pub no_room : ℕ → Ask
+no_room k n s modes q = cond (eqb (kind q) k) (never_room n s modes q) (answer n s modes q)
