@@ -1,5 +1,5 @@
--- The Pfaffian of two matrices that are seen alike is seen alike, where the rows and columns from k on are. So it is equal for equal ones, and equal
--- up to the sign of a zero for such. A division is by a pivot that is no zero. Assumes nothing.
+-- The Pfaffian of two matrices that are seen alike is seen alike, where the rows and columns from k on are: both stop, in the same row, or neither does.
+-- So it is equal for equal ones, and equal up to the sign of a zero for such. A division is by a pivot that is no zero. Assumes nothing.
 use mathlib.Core.Path.{◌≡◌, refl, sym, ap, subst, ◌∙◌}
 use mathlib.Core.Logic.{◌≢◌}
 use mathlib.Core.Bool.{Bool, true, false, cond, true≢false}
@@ -14,7 +14,9 @@ use Rattle.laws.specs.Tables.{exchanged}
 use Rattle.laws.specs.Matrix.{Mat}
 use Rattle.laws.proofs.Tables.{exchanged-away, exchanged-second, exchanged-below, exchanged-from}
 use Rattle.num.specs.Order.{abs_of}
-use Rattle.pfaffian.specs.Pfaffian.{search, pivot_of, pivoted, less, pf, pfaffian_of}
+use Rattle.pfaffian.specs.declared.pairs.End.{End}
+use Rattle.pfaffian.specs.declared.pairs.End.TheVariants.{Value, Stopped}
+use Rattle.pfaffian.specs.Pfaffian.{search, pivot_of, pivoted, less, ended, pfaffian_of}
 use Rattle.pfaffian.proofs.Seen.{Seen, Alike, exactly, up-to-zeros, cond-seen, abs-zero}
 
 -- ---- the pivot: its absolute value is what the search found, and it is one of the columns that were searched
@@ -62,6 +64,12 @@ pivot-nonzero k dim a h f z =
     (sym (abs-zero (a k s.1) (ap nz (sym (pivot-at k s.1 a w.from)) ∙ z))
     ∙ ap (λ x. eq x +0) (sym w.best)
     ∙ f)
+
+-- ---- what is seen of an answer: its number; a row as it is
+
+abbrev pub seen_of : (Float → Float) → End → End
+seen_of v (Value x) = Value (v x)
+seen_of v (Stopped k) = Stopped k
 
 -- ---- matrices seen alike
 
@@ -119,10 +127,11 @@ module _ (v : Float → Float) (see : Seen v) where
       (see.mul-seen (neg (t i)) (a (suc k) j) (neg (u i)) (b (suc k) j) (see.neg-seen (t i) (u i) (tu i (omega arith) hi)) (low j (omega arith) hj))
       (see.mul-seen (t j) (a (suc k) i) (u j) (b (suc k) i) (tu j (omega arith) hj) (low i (omega arith) hi)))
 
-  pub pf-seen : (a b : Mat) (p k dim : ℕ) (x y : Float) → k + 2 * p ≤ dim → Alike v k dim a b → v x ≡ v y → v (pf a p k dim x) ≡ v (pf b p k dim y)
-  unfolding pf
-  pf-seen a b zero k dim x y room h e = e
-  pf-seen a b (suc p) k dim x y room h e =
+  pub ended-seen : (a b : Mat) (p k dim : ℕ) (x y : Float) → k + 2 * p ≤ dim → Alike v k dim a b → v x ≡ v y
+      → seen_of v (ended a p k dim x) ≡ seen_of v (ended b p k dim y)
+  unfolding ended
+  ended-seen a b zero k dim x y room h e = ap Value e
+  ended-seen a b (suc p) k dim x y room h e =
       let two : k + 2 ≤ dim = omega arith in
       let s = pivot_of (a k) k dim in
       let t = pivot_of (b k) k dim in
@@ -138,33 +147,41 @@ module _ (v : Float → Float) (see : Seen v) where
       let y' = mul binary64 (cond n y (neg y)) (B k (suc k)) in
       let e' : v x' ≡ v y' = see.mul-seen (cond n x (neg x)) (A k (suc k)) (cond n y (neg y)) (B k (suc k))
       (cond-seen v n n x (neg x) y (neg y) refl e (see.neg-seen x y e)) (AB k (suc k) (omega arith) (omega arith) (omega arith) (omega arith)) in
-      let rec : eq s.0 +0 ≡ false → v (pf (less k A) p (suc (suc k)) dim x') ≡ v (pf (less k B) p (suc (suc k)) dim y') =
-      λ f. pf-seen (less k A) (less k B) p (suc (suc k)) dim x' y' (omega arith) (less-seen k dim A B two AB (pivot-nonzero k dim a two f)) e' in
-      stop (eq s.0 +0) (eq t.0 +0) (see.eq-seen s.0 +0 t.0 +0 c.0 refl) (pf (less k A) p (suc (suc k)) dim x')
-      (pf (less k B) p (suc (suc k)) dim y') rec
-      ∙ ap (λ (q : ℕ). v (cond (eq t.0 +0) +0
-      (pf (less k (pivoted q (suc k) b)) p (suc (suc k)) dim (mul binary64 (cond (eqb q (suc k)) y (neg y)) (pivoted q (suc k) b k (suc k)))))) c.1
+      let rec : eq s.0 +0 ≡ false → seen_of v (ended (less k A) p (suc (suc k)) dim x') ≡ seen_of v (ended (less k B) p (suc (suc k)) dim y') =
+      λ f. ended-seen (less k A) (less k B) p (suc (suc k)) dim x' y' (omega arith) (less-seen k dim A B two AB (pivot-nonzero k dim a two f)) e' in
+      stop (eq s.0 +0) (eq t.0 +0) (see.eq-seen s.0 +0 t.0 +0 c.0 refl) (ended (less k A) p (suc (suc k)) dim x')
+      (ended (less k B) p (suc (suc k)) dim y') rec
+      ∙ ap (λ (q : ℕ). seen_of v (cond (eq t.0 +0) (Stopped k)
+      (ended (less k (pivoted q (suc k) b)) p (suc (suc k)) dim (mul binary64 (cond (eqb q (suc k)) y (neg y)) (pivoted q (suc k) b k (suc k)))))) c.1
     where
-      stop : (f g : Bool) → f ≡ g → (r r' : Float) → (f ≡ false → v r ≡ v r') → v (cond f +0 r) ≡ v (cond g +0 r')
-      stop true g e r r' h = ap (λ (q : Bool). v (cond q +0 r')) e
-      stop false g e r r' h = h refl ∙ ap (λ (q : Bool). v (cond q +0 r')) e
+      stop : (f g : Bool) → f ≡ g → (r r' : End) → (f ≡ false → seen_of v r ≡ seen_of v r')
+          → seen_of v (cond f (Stopped k) r) ≡ seen_of v (cond g (Stopped k) r')
+      stop true g e r r' h = ap (λ (q : Bool). seen_of v (cond q (Stopped k) r')) e
+      stop false g e r r' h = h refl ∙ ap (λ (q : Bool). seen_of v (cond q (Stopped k) r')) e
 
 -- ---- equal, and equal up to the sign of a zero
 
-pub pf-same : (a b : Mat) (p k dim : ℕ) (x : Float) → k + 2 * p ≤ dim → Alike (λ x. x) k dim a b → pf a p k dim x ≡ pf b p k dim x
-pf-same a b p k dim x room h = pf-seen (λ x. x) exactly a b p k dim x x room h refl
+exactly-is : (p : End) → seen_of (λ x. x) p ≡ p
+exactly-is (Value x) = refl
+exactly-is (Stopped k) = refl
 
-pub pf-cong : (a b : Mat) (p k dim : ℕ) (x y : Float) → k + 2 * p ≤ dim → Alike nz k dim a b → nz x ≡ nz y → nz (pf a p k dim x) ≡ nz (pf b p k dim y)
-pf-cong = pf-seen nz up-to-zeros
+exactly-same : (p q : End) → seen_of (λ x. x) p ≡ seen_of (λ x. x) q → p ≡ q
+exactly-same p q e = sym (exactly-is p) ∙ e ∙ exactly-is q
 
-pfaffian-seen : (v : Float → Float) → Seen v → (a b : Mat) (dim : ℕ) → Alike v 0 dim a b → v (pfaffian_of dim a) ≡ v (pfaffian_of dim b)
+pub ended-same : (a b : Mat) (p k dim : ℕ) (x : Float) → k + 2 * p ≤ dim → Alike (λ x. x) k dim a b → ended a p k dim x ≡ ended b p k dim x
+ended-same a b p k dim x room h =
+    exactly-same (ended a p k dim x) (ended b p k dim x) (ended-seen (λ x. x) exactly a b p k dim x x room h refl)
+
+pfaffian-seen : (v : Float → Float) → Seen v → (a b : Mat) (dim : ℕ) → Alike v 0 dim a b → seen_of v (pfaffian_of dim a) ≡ seen_of v (pfaffian_of dim b)
 unfolding pfaffian_of
-pfaffian-seen v see a b dim h =
-    cond-seen v (eqb (dim % 2) 1) (eqb (dim % 2) 1) +0 (pf a (dim / 2) 0 dim +1) +0 (pf b (dim / 2) 0 dim +1) refl refl
-    (pf-seen v see a b (dim / 2) 0 dim +1 +1 (omega arith) h refl)
+pfaffian-seen v see a b dim h = by (eqb (dim % 2) 1)
+  where
+    by : (t : Bool) → seen_of v (cond t (Stopped 0) (ended a (dim / 2) 0 dim +1)) ≡ seen_of v (cond t (Stopped 0) (ended b (dim / 2) 0 dim +1))
+    by true = refl
+    by false = ended-seen v see a b (dim / 2) 0 dim +1 +1 (omega arith) h refl
 
 pub pfaffian-same : (a b : Mat) (dim : ℕ) → Alike (λ x. x) 0 dim a b → pfaffian_of dim a ≡ pfaffian_of dim b
-pfaffian-same = pfaffian-seen (λ x. x) exactly
+pfaffian-same a b dim h = exactly-same (pfaffian_of dim a) (pfaffian_of dim b) (pfaffian-seen (λ x. x) exactly a b dim h)
 
-pub pfaffian-cong : (a b : Mat) (dim : ℕ) → Alike nz 0 dim a b → nz (pfaffian_of dim a) ≡ nz (pfaffian_of dim b)
+pub pfaffian-cong : (a b : Mat) (dim : ℕ) → Alike nz 0 dim a b → seen_of nz (pfaffian_of dim a) ≡ seen_of nz (pfaffian_of dim b)
 pfaffian-cong = pfaffian-seen nz up-to-zeros

@@ -1,6 +1,6 @@
--- The edges of the Pfaffian, rows under one theorem, and small values worked out: Pfaffians, and shots with each outcome. Assumes nothing.
+-- The edges of the Pfaffian, rows under one theorem, and small values worked out: Pfaffians, where they stop, and shots with each outcome. Assumes nothing.
 use mathlib.Core.Path.{◌≡◌, refl}
-use mathlib.Core.Bool.{true, false}
+use mathlib.Core.Bool.{Bool, true, false}
 use mathlib.Core.List.{List, [], ◌∷◌}
 use Prim.Native.Nat.{ℕ, ◌+◌, ◌-◌, ◌*◌, ◌%◌}
 use native.Mathlib.Omega.{arith}
@@ -12,17 +12,19 @@ use borrow.Author.Tests.{eq-eqb}
 use Rattle.laws.specs.Zeros.{+0, +1}
 use Rattle.laws.specs.Matrix.{Mat}
 use Rattle.num.specs.Order.{abs_of, clamp_of}
-use Rattle.pfaffian.specs.Pfaffian.{search, pf, pfaffian_of}
+use Rattle.pfaffian.specs.declared.pairs.End.{End}
+use Rattle.pfaffian.specs.declared.pairs.End.TheVariants.{Value, Stopped}
+use Rattle.pfaffian.specs.Pfaffian.{search, ended, pfaffian_of}
 use Rattle.pfaffian.specs.Shot.{half, shot, word_of, shot_of}
 
 -- ---- the edges: dimension 0, and every odd dimension
 
-pub data Edge : ℕ → Float → Type 0 where
-  none : Edge 0 +1
-  uneven : (d : ℕ) → Edge (2 * d + 1) +0
+pub data Edge : ℕ → End → Type 0 where
+  none : Edge 0 (Value +1)
+  uneven : (d : ℕ) → Edge (2 * d + 1) (Stopped 0)
 
-pub pfaffian-edge : {dim : ℕ} {x : Float} → Edge dim x → (a : Mat) → pfaffian_of dim a ≡ x
-unfolding pfaffian_of pf
+pub pfaffian-edge : {dim : ℕ} {p : End} → Edge dim p → (a : Mat) → pfaffian_of dim a ≡ p
+unfolding pfaffian_of ended
 pfaffian-edge none a = refl
 pfaffian-edge (uneven d) a = let e : (2 * d + 1) % 2 ≡ 1 = omega arith in rw (eq-eqb ((2 * d + 1) % 2) 1 e)
 
@@ -35,6 +37,10 @@ p n = fin false n (pos 0)
 m : ℕ → Float
 m n = fin true n (pos 0)
 
+-- 2^-1000
+low : Float
+low = fin false 1 (negsuc 999)
+
 -- a matrix by its rows
 rows : List (List Float) → Mat
 rows l r c = get_or (get_or l r []) c nan
@@ -44,9 +50,33 @@ four : List (List Float)
 four = (+0 ∷ p 1 ∷ p 3 ∷ p 3 ∷ []) ∷ (m 1 ∷ +0 ∷ p 5 ∷ p 7 ∷ []) ∷ (m 3 ∷ m 5 ∷ +0 ∷ p 9 ∷ []) ∷ (m 3 ∷ m 7 ∷ m 9 ∷ +0 ∷ []) ∷ []
 
 -- 1 * 9 - 3 * 7 + 3 * 5
-worked : pfaffian_of 4 (rows four) ≡ p 3
-unfolding pfaffian_of pf search abs_of rows four p m add sub mul div neg sum round units odd size climb span lt eq count_trailing_zeros
+worked : pfaffian_of 4 (rows four) ≡ Value (p 3)
+unfolding pfaffian_of ended search abs_of rows four p m add sub mul div neg sum round units odd size climb span lt eq count_trailing_zeros
 worked = refl
+
+-- ---- where it stops
+
+-- the row is one of the matrix as swapped by then: the only entry of four rows, (0, 2), is brought to column 1, and row 2 is then empty
+swapped : pfaffian_of 4 (rows ((+0 ∷ +0 ∷ p 1 ∷ +0 ∷ []) ∷ (+0 ∷ +0 ∷ +0 ∷ +0 ∷ []) ∷ (m 1 ∷ +0 ∷ +0 ∷ +0 ∷ []) ∷ (+0 ∷ +0 ∷ +0 ∷ +0 ∷ []) ∷ []))
+    ≡ Stopped 2
+unfolding pfaffian_of ended search abs_of rows p m add mul div neg sum round units odd size climb span lt eq count_trailing_zeros
+swapped = refl
+
+-- "a NaN after a first candidate of zero does not prevent that stop", of either sign
+nan-after : (s : Bool) → pfaffian_of 4 (rows ((+0 ∷ fin s 0 (pos 0) ∷ nan ∷ +0 ∷ []) ∷ [])) ≡ Stopped 0
+unfolding pfaffian_of ended search abs_of rows lt eq
+nan-after s = refl
+
+-- a first candidate that is one does
+nan_first : pfaffian_of 2 (rows ((+0 ∷ nan ∷ []) ∷ [])) ≡ Value nan
+unfolding pfaffian_of ended search abs_of rows mul eq
+nan_first = refl
+
+-- a product that is too small for a float is worked out
+tiny : pfaffian_of 4 (rows ((+0 ∷ low ∷ +0 ∷ +0 ∷ []) ∷ (neg low ∷ +0 ∷ +0 ∷ +0 ∷ []) ∷ (+0 ∷ +0 ∷ +0 ∷ low ∷ []) ∷ (+0 ∷ +0 ∷ neg low ∷ +0 ∷ []) ∷ []))
+    ≡ Value +0
+unfolding pfaffian_of ended search abs_of rows low add mul div neg sum round units odd size climb span lt eq count_trailing_zeros
+tiny = refl
 
 -- mode 0 is one, mode 1 zero, whatever the draws; qubit 0 has mode 1 and qubit 1 mode 0
 flipped : List (List Float)

@@ -5,6 +5,8 @@ pub mod Keeping
 pub mod Pivots
 pub mod Elimination
 pub mod Congruent
+pub mod Number
+pub mod Stops
 pub mod Pairing
 pub mod TwoRows
 pub mod Standing

@@ -1,5 +1,5 @@
 -- Laws of the Pfaffian's loop over the pairs: what is left from pair k on, with the matrix as it stands, gives what the whole gives; a row of zeros
--- ends it. Assumes nothing.
+-- stops it there. Assumes nothing.
 use mathlib.Core.Path.{◌≡◌, refl, sym, ◌∙◌}
 use mathlib.Core.Bool.{true, false, cond}
 use mathlib.Core.List.{List}
@@ -19,9 +19,10 @@ use Rattle.laws.proofs.Tables.{exchanged_same, exchanged-below, exchanged-from}
 use Rattle.laws.proofs.Matrix.{matrix-is}
 use Rattle.laws.proofs.Sweep.{masked_on}
 use Rattle.pfaffian.specs.Work.{Kept}
-use Rattle.pfaffian.specs.Pfaffian.{pivot_of, pivoted, less, pf}
+use Rattle.pfaffian.specs.declared.pairs.End.TheVariants.{Value, Stopped}
+use Rattle.pfaffian.specs.Pfaffian.{pivot_of, pivoted, less, ended}
 use Rattle.pfaffian.specs.Turns.{brought, Corner}
-use Rattle.pfaffian.proofs.Congruent.{pf-same}
+use Rattle.pfaffian.proofs.Congruent.{ended-same}
 use Rattle.pfaffian.proofs.Keeping.{kept-corner, kept_then}
 
 -- no exchange is that of an index with itself
@@ -62,17 +63,17 @@ less_by a b k i j e₀ e₁ e₂ e₃ e₄ e₅ = rw (e₀, e₁, e₂, e₃, e�
 
 -- ---- what is left
 
-pub pair-done : (a : Mat) (dim k : ℕ) (acc : Float) → dim ≤ k → pf a ((dim - k) / 2) k dim acc ≡ acc
-unfolding pf
+pub pair-done : (a : Mat) (dim k : ℕ) (acc : Float) → dim ≤ k → ended a ((dim - k) / 2) k dim acc ≡ Value acc
+unfolding ended
 pair-done a dim k acc h = let e : (dim - k) / 2 ≡ 0 = omega arith in rw e
 
 module _ (dim k : ℕ) (m : List Float) (acc : Float) (h : k < dim) (even : (dim - k) % 2 ≡ 0) where
   pub pair-stop : (best : Float) → best ≡ (pivot_of (at dim m k) k dim).0 → eq best (of_bits binary64 0) ≡ true
-      → of_bits binary64 0 ≡ pf (at dim m) ((dim - k) / 2) k dim acc
-  unfolding pf
+      → Stopped k ≡ ended (at dim m) ((dim - k) / 2) k dim acc
+  unfolding ended
   pair-stop best eb t =
       let e : (dim - k) / 2 ≡ suc ((dim - (k + 2)) / 2) = omega arith in
-      rw (e, ← eb, zero_bits, rw zero_bits at t)
+      rw (e, ← eb, rw zero_bits at t) refl
 
   module _ (best : Float) (p : ℕ) (R m' : List Float) (x acc' : Float)
       (eb : best ≡ (pivot_of (at dim m k) k dim).0) (ep : p ≡ (pivot_of (at dim m k) k dim).1) (w_r : Corner dim k m (brought p (k + 1) (at dim m)) R)
@@ -96,14 +97,14 @@ module _ (dim k : ℕ) (m : List Float) (acc : Float) (h : k < dim) (even : (dim
         (brings (suc k) i (omega arith) (omega arith) (omega arith) hi) (brings (suc k) j (omega arith) (omega arith) (omega arith) hj)
 
     pub pair_turn : eq best (of_bits binary64 0) ≡ false → x ≡ at dim R k (k + 1) → acc' ≡ cond (eqb p (k + 1)) acc (neg acc)
-        → pf (at dim m') ((dim - (k + 2)) / 2) (k + 2) dim (mul binary64 acc' x) ≡ pf (at dim m) ((dim - k) / 2) k dim acc
-    unfolding pf ready
+        → ended (at dim m') ((dim - (k + 2)) / 2) (k + 2) dim (mul binary64 acc' x) ≡ ended (at dim m) ((dim - k) / 2) k dim acc
+    unfolding ended ready
     pair_turn t ex ea =
         let e : (dim - k) / 2 ≡ suc ((dim - (k + 2)) / 2) = omega arith in
         let s : k + 2 ≡ suc (suc k) = omega arith in
         let x' : x ≡ ready k (suc k) = ex ∙ rw one (brings k (suc k) (le_refl k) h (omega arith) (omega arith)) in
         rw (e, ← eb, rw zero_bits at t, ← ep, x', ea, one, s)
-        (pf-same (at dim m') (less k ready) ((dim - suc (suc k)) / 2) (suc (suc k)) dim _ (omega arith) lessens)
+        (ended-same (at dim m') (less k ready) ((dim - suc (suc k)) / 2) (suc (suc k)) dim _ (omega arith) lessens)
 
 -- nothing outside the matrix has changed
 pub pair-kept : (dim k : ℕ) (m₀ m R m' : List Float) (f g : Mat) → Corner dim k m f R → Corner dim (k + 2) R g m' → Kept dim m₀ m → Kept dim m₀ m'

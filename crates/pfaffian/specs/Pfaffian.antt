@@ -1,12 +1,15 @@
--- The Pfaffian (001, `pfaffian`) of a matrix given by its entries: elimination by pairs of rows, with a pivot.
+-- The Pfaffian (001, `pfaffian`) of a matrix given by its entries: elimination by pairs of rows, with a pivot. "The Pfaffian's answer becomes a value
+-- with its float, or a stop with the row (from 0, in the matrix as swapped by then) where the pivot search ended at zero" (document 02): the code's own enum.
 -- Only entries of rows and columns from k on are read at pair k, k + 1. Assumes nothing. A public promise rests on this.
-use Rattle.std.specs.Prelude.{true, false, cond, ℕ, zero, suc, ◌-◌, ◌/◌, ◌%◌, eqb, Float}
+use Rattle.std.specs.Prelude.{true, false, cond, Option, Some, None, ℕ, zero, suc, ◌-◌, ◌/◌, ◌%◌, eqb, Float}
 use Rattle.std.specs.Float.{binary64}
 use Rattle.std.specs.Float.Ieee.{add, mul, div, neg, lt, eq}
 use Rattle.laws.specs.Zeros.{+0, +1}
 use Rattle.laws.specs.Tables.{exchanged}
 use Rattle.laws.specs.Matrix.{Mat}
 use Rattle.num.specs.Order.{abs_of}
+use Rattle.pfaffian.specs.declared.pairs.End.{End}
+use Rattle.pfaffian.specs.declared.pairs.End.TheVariants.{Value, Stopped}
 
 -- the first largest |row j|, for n columns from j on, after `best` in column `piv`. Only a larger one takes its place; a NaN never is, and none is
 -- larger than a NaN
@@ -30,18 +33,28 @@ less k a i j =
     add binary64 (a i j)
     (add binary64 (mul binary64 (neg (div binary64 (a k i) akk)) (a (suc k) j)) (mul binary64 (div binary64 (a k j) akk) (a (suc k) i)))
 
--- the answer where the search in row k ended at zero, and of an odd dimension (row 0)
-abbrev pub stopped_at : ℕ → Float
-stopped_at k = +0
-
--- p pairs from k on, with `pf` so far: it turns with an exchange, and takes the pivot as a factor
-unfoldable pub pf : Mat → ℕ → ℕ → ℕ → Float → Float
-pf a zero k dim acc = acc
-pf a (suc p) k dim acc =
+-- p pairs from k on, with `acc` so far: it turns with an exchange, and takes the pivot as a factor. Where the search in row k ended at zero, row k is where
+-- it stops
+unfoldable pub ended : Mat → ℕ → ℕ → ℕ → Float → End
+ended a zero k dim acc = Value acc
+ended a (suc p) k dim acc =
     let s = pivot_of (a k) k dim in
     let b = pivoted s.1 (suc k) a in
-    let r = pf (less k b) p (suc (suc k)) dim (mul binary64 (cond (eqb s.1 (suc k)) acc (neg acc)) (b k (suc k))) in
-    cond (eq s.0 +0) (stopped_at k) r
+    let r = ended (less k b) p (suc (suc k)) dim (mul binary64 (cond (eqb s.1 (suc k)) acc (neg acc)) (b k (suc k))) in
+    cond (eq s.0 +0) (Stopped k) r
 
-unfoldable pub pfaffian_of : ℕ → Mat → Float
-pfaffian_of dim a = cond (eqb (dim % 2) 1) (stopped_at 0) (pf a (dim / 2) 0 dim +1)
+-- "An odd dimension stops at row 0."
+unfoldable pub pfaffian_of : ℕ → Mat → End
+pfaffian_of dim a = cond (eqb (dim % 2) 1) (Stopped 0) (ended a (dim / 2) 0 dim +1)
+
+-- ---- taken apart
+
+-- its number, which is 0.0 at a stop
+abbrev pub number_of : End → Float
+number_of (Value x) = x
+number_of (Stopped k) = +0
+
+-- its row, if it stopped
+abbrev pub row_of : End → Option ℕ
+row_of (Value x) = None
+row_of (Stopped k) = Some k

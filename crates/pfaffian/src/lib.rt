@@ -7,5 +7,5 @@
 mod pairs; // pairs.rt: the Pfaffian
 mod shots; // shots.rt: one shot
 
-pub use pairs::pfaffian;
+pub use pairs::{End, pfaffian};
 pub use shots::shot;

@@ -20,6 +20,13 @@ pub struct Found {
     pub piv: usize,
 }
 
+// How the Pfaffian ends: with its value, or in the row where the search for a pivot ended at zero. Its number is 0.0 there.
+#[derive(Clone, Copy)]
+pub enum End {
+    Value(f64),
+    Stopped(usize),
+}
+
 // The first largest |m[k][j]|, j > k.
 fn pivot(m: &Square, k: usize) -> Found
     requires { k + 2 ≤ m.now.dim }
@@ -126,13 +133,13 @@ fn eliminate(m: &mut Square, k: usize)
     eliminate_rows(m, k);
 }
 
-// The Pfaffian of the matrix, which is overwritten.
-pub fn pfaffian(m: &mut Square) -> f64
+// The Pfaffian of the matrix, which is overwritten. One of odd dimension stops at row 0.
+pub fn pfaffian(m: &mut Square) -> End
     ensures value { result ≡ pfaffian_of m.old.dim (cells m.old) }
     ensures kept { Works m.old m.new }
 {
     if m.dim % 2 == 1 {
-        return 0.0;
+        return End::Stopped(0);
     }
     let mut pf = 1.0;
     for pair in 0..m.dim / 2 {
@@ -140,7 +147,7 @@ pub fn pfaffian(m: &mut Square) -> f64
         let found = pivot(m, k);
         let piv = found.piv;
         if found.best == 0.0 {
-            return 0.0;
+            return End::Stopped(k);
         }
         if piv != k + 1 {
             pf = -pf;
@@ -149,5 +156,5 @@ pub fn pfaffian(m: &mut Square) -> f64
         pf = pf * m.entry(k, k + 1);
         eliminate(m, k);
     }
-    pf
+    End::Value(pf)
 }

@@ -1,10 +1,9 @@
 -- `pfaffian::pairs::pfaffian` meets its contract: what is left from pair k on gives what the whole gives (`pair_turn`). Assumes nothing.
-use mathlib.Core.Path.{◌≡◌, sym, ap, ◌∙◌}
+use mathlib.Core.Path.{◌≡◌, refl, sym, ap, ◌∙◌}
 use Prim.Native.Nat.{◌≤◌, ◌+◌, ◌*◌}
 use native.Mathlib.Omega.{arith}
 use borrow.Author.Tests.{eq-eqb, ne_eqb}
 use Rattle.laws.specs.Matrix.{at}
-use Rattle.laws.proofs.Zeros.{zero_bits}
 use Rattle.pfaffian.specs.Pfaffian.{pivot_of, pfaffian_of}
 use Rattle.pfaffian.proofs.Congruent.{pivot-found}
 use Rattle.pfaffian.proofs.Pairing.{pair_turn, pair-stop, pair-done, pair-kept}
@@ -15,7 +14,7 @@ use Rattle.pfaffian.proofs.pairs.pfaffian.Goals.{then-piv-k, else-piv-k}
 -- ---- an odd dimension
 pub returns-then-m-eq1-clause-value : goal.returns-then-m-eq1-clause-value
 unfolding pfaffian_of
-returns-then-m-eq1-clause-value c = rw (eq-eqb _ _ c.if-m-eq1.true) zero_bits
+returns-then-m-eq1-clause-value c = rw (eq-eqb _ _ c.if-m-eq1.true) refl
 
 -- ---- the pairs
 pub returns-then-found-clause-value : goal.returns-then-found-clause-value
