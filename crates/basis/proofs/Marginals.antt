@@ -15,6 +15,7 @@ use Rattle.std.proofs.lemmas.Bool.{cases_eq}
 use Rattle.pfaffian.specs.Shot.{bit}
 use Rattle.state.specs.Questions.{state_ok}
 use Rattle.state.specs.Answers.{Told, accepted, refused}
+use Rattle.queries.specs.Answers.{Answered, without_row}
 use Rattle.queries.specs.Lists.{bits_ok, stop_place, asked, noted_modes}
 use Rattle.queries.specs.Products.{dim_left}
 use Rattle.queries.specs.Marginals.{marked_of}
@@ -27,8 +28,8 @@ use Rattle.basis.proofs.Asked.{differs-each, differs-some, stopped-differs, aske
 use Rattle.basis.proofs.Marked.{marked-agrees, marked_differs}
 
 -- an answer under a test: not a refusal
-passes : (t : Bool) (x : Told) (q : ℕ) (y : Told) → 0 < q → (cond t x (refused q 0)).number ≡ 0 → (t ≡ true → x.number ≡ 0 → x ≡ y)
-    → cond t x (refused q 0) ≡ y
+passes : (t : Bool) (x : Answered) (q : ℕ) (y : Told) → 0 < q → (cond t x (without_row (refused q 0))).told.number ≡ 0
+    → (t ≡ true → x.told.number ≡ 0 → x.told ≡ y) → (cond t x (without_row (refused q 0))).told ≡ y
 passes true x q y h e f = f refl e
 passes false x q y h e f = absurd (omega arith)
 
@@ -37,10 +38,10 @@ module _ (n : ℕ) (b r : ℕ → Bool) (s : List Float) (modes : List ℕ) (R :
 
   module _ (qs xs : List ℕ) (ok : bits_ok qs xs ≡ true) where
     -- a list that is read whole
-    marked-told : length qs ≤ stop_place n modes qs xs → marked_of (covariance_of n s) n (asked modes qs xs) ≡ register_marginal n r qs xs
+    marked-told : length qs ≤ stop_place n modes qs xs → (marked_of (covariance_of n s) n (asked modes qs xs)).value ≡ register_marginal n r qs xs
     marked-told h = by (differs n r qs xs) refl
       where
-        by : (t : Bool) → differs n r qs xs ≡ t → marked_of (covariance_of n s) n (asked modes qs xs) ≡ cond t +0 +1
+        by : (t : Bool) → differs n r qs xs ≡ t → (marked_of (covariance_of n s) n (asked modes qs xs)).value ≡ cond t +0 +1
         by true d =
             let k = asked-differs n b r (covariance_of n s) modes R qs xs ok h d in
             marked_differs n b (covariance_of n s) R.covariance (asked modes qs xs) k.0 k.1.0
@@ -63,19 +64,19 @@ module _ (n : ℕ) (b r : ℕ → Bool) (s : List Float) (modes : List ℕ) (R :
         by true f e = absurd (omega arith)
         by false f e = rw (stopped-differs n b r (covariance_of n s) modes R qs xs ok h (leb-false n (get_or qs place 0) f))
 
-  pub marginal-told : (qs xs : List ℕ) (w : List Float) → (marginal_probability_of n s modes qs xs w).number ≡ 0
-      → marginal_probability_of n s modes qs xs w ≡ accepted (register_marginal n r qs xs)
+  pub marginal-told : (qs xs : List ℕ) (w : List Float) → (marginal_probability_of n s modes qs xs w).told.number ≡ 0
+      → (marginal_probability_of n s modes qs xs w).told ≡ accepted (register_marginal n r qs xs)
   unfolding marginal_probability_of worked
   marginal-told qs xs w e =
       passes (state_ok n s modes) _ 16 _ (lit< tt) e (λ _ e.
       passes (bits_ok qs xs) _ 18 _ (lit< tt) e (λ ok e. by ok (ltb (stop_place n modes qs xs) (length qs)) refl e))
     where
-      read : Told
+      read : Answered
       read = marked_answer (covariance_of n s) n (asked modes qs xs) w
 
       by : bits_ok qs xs ≡ true → (t : Bool) → ltb (stop_place n modes qs xs) (length qs) ≡ t
-          → (cond t (stopped_of n qs (stop_place n modes qs xs)) read).number ≡ 0
-          → cond t (stopped_of n qs (stop_place n modes qs xs)) read ≡ accepted (register_marginal n r qs xs)
+          → (cond t (without_row (stopped_of n qs (stop_place n modes qs xs))) read).told.number ≡ 0
+          → (cond t (without_row (stopped_of n qs (stop_place n modes qs xs))) read).told ≡ accepted (register_marginal n r qs xs)
       by ok true f e = stopped-told qs xs ok (ltb-true (stop_place n modes qs xs) (length qs) f) e
       by ok false f e =
           passes (work_ok (dim_left (noted_modes n (asked modes qs xs))) w) _ 20 _ (lit< tt) e

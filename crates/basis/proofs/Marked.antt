@@ -18,13 +18,14 @@ use Rattle.laws.proofs.Dyadic.{neg-dy, add-dy, mul-dy, lower-dy, zero-dy}
 use Rattle.laws.proofs.DyadicOrder.{lt-dy}
 use Rattle.laws.proofs.Fit.{times-sign, sg-fits}
 use Rattle.monomial.specs.Basis.{IsBasis}
-use Rattle.pfaffian.specs.Pfaffian.{pfaffian_of}
+use Rattle.pfaffian.proofs.Number.{pfaffian_number}
 use Rattle.pfaffian.specs.Shot.{half, bit}
 use Rattle.state.specs.Bounds.{dim_of}
 use Rattle.queries.specs.Lists.{oddly, conflicts_of, noted_modes}
 use Rattle.queries.specs.Products.{dim_left, restricted}
 use Rattle.queries.specs.Marginals.{is_one, shifted, halved, asked_matrix, sign_of, at_least_zero_of, marked_of}
 use Rattle.queries.proofs.Searches.{odd-same, passing-ascends, passing-all}
+use Rattle.queries.proofs.Rows.{marked-number}
 use Rattle.basis.proofs.Pairs.{IsPairs, Units, pf-zero, sign-dy, pf-signs}
 use Rattle.basis.proofs.Listed.{listed-basis, odd-listed}
 
@@ -185,10 +186,10 @@ module _ (n : ℕ) (b : ℕ → Bool) (e : Mat) (E : IsBasis (dim_of n) b e) (ma
   ones = odd-listed p (λ k. is_one (mark k)) n ∙ odd-same (λ k. p k && is_one (mark k)) (λ k. is_one (mark k)) n (λ k h. noted_one (mark k))
 
   -- every mode has the bit asked of it
-  pub marked-agrees : ((k : ℕ) → k < n → conflicts_of (mark k) (suc (bit (b k))) ≡ false) → marked_of e n mark ≡ +1
-  unfolding marked_of
+  pub marked-agrees : ((k : ℕ) → k < n → conflicts_of (mark k) (suc (bit (b k))) ≡ false) → (marked_of e n mark).value ≡ +1
   marked-agrees h =
-      ap (λ f. at_least_zero_of (mul binary64 (sign_of n mark) f))
+      marked-number e n mark
+      ∙ ap (λ f. at_least_zero_of (mul binary64 (sign_of n mark) f))
       (pf-signs v w small-v small-w size a asked-pairs y sign ∙ ap (λ s. sg s +1) ones)
       ∙ sign-square (oddly (λ k. is_one (mark k)) n)
     where
@@ -203,10 +204,10 @@ module _ (n : ℕ) (b : ℕ → Bool) (e : Mat) (E : IsBasis (dim_of n) b e) (ma
           ap (λ t. pair_of t (y j)) (sym s) ∙ equal (y j)
 
   -- a mode has the other bit
-  pub marked_differs : (k : ℕ) → k < n → mark k ≤ 2 → conflicts_of (mark k) (suc (bit (b k))) ≡ true → marked_of e n mark ≡ +0
-  unfolding marked_of
+  pub marked_differs : (k : ℕ) → k < n → mark k ≤ 2 → conflicts_of (mark k) (suc (bit (b k))) ≡ true → (marked_of e n mark).value ≡ +0
   marked_differs k h small c =
       let l = passing-all p n k h ((and_parts (ltb 0 (mark k)) (not (eqb (mark k) (suc (bit (b k))))) c).0) in
       let zero : v l.0 ≡ pos 0 = ap (λ k. pair_of (b k) (is_one (mark k))) l.1.1 ∙ one-not (b k) (mark k) small c in
-      zero-stays (oddly (λ k. is_one (mark k)) n) (pfaffian_of (2 * size) a)
+      marked-number e n mark
+      ∙ zero-stays (oddly (λ k. is_one (mark k)) n) (pfaffian_number (2 * size) a)
       (pf-zero v w small-v small-w size a asked-pairs l.0 l.1.0 zero)

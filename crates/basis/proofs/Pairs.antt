@@ -24,7 +24,8 @@ use Rattle.laws.proofs.DyadicFloat.{is-float}
 use Rattle.laws.proofs.Fit.{sg-fits}
 use Rattle.num.specs.Order.{abs_of}
 use Rattle.num.proofs.Alike.{abs-dy}
-use Rattle.pfaffian.specs.Pfaffian.{search, pivot_of, pivoted, less, pf, pfaffian_of}
+use Rattle.pfaffian.specs.Pfaffian.{search, pivot_of, pivoted, less}
+use Rattle.pfaffian.proofs.Number.{pf, pfaffian_number}
 use Rattle.queries.specs.Lists.{oddly}
 
 -- ---- whole numbers of size 0 or 1
@@ -198,8 +199,8 @@ module _ (v w : ℕ → ℤ) (hv : Units v) (hw : Units w) where
           (none i r (le_refl i) (omega arith) l b) (none i c (le_refl i) (omega arith) o q)
           (none (suc i) r (omega arith) (le_refl (suc i)) l b) (none (suc i) c (omega arith) (le_refl (suc i)) o q)))
 
-  pub pf-pairs : (p : ℕ) (a : Mat) → IsPairs (2 * p) v w a → Dy 0 (product v p) (pfaffian_of (2 * p) a)
-  unfolding pfaffian_of
+  pub pf-pairs : (p : ℕ) (a : Mat) → IsPairs (2 * p) v w a → Dy 0 (product v p) (pfaffian_number (2 * p) a)
+  unfolding pfaffian_number
   pf-pairs p a m =
       rw (ne_eqb (2 * p % 2) 1 (λ e. omega arith), half)
       (subst (λ (n : ℕ). Dy 0 (product v n) (pf a p 0 (2 * p) +1)) (zero-add p)
@@ -209,14 +210,14 @@ module _ (v w : ℕ → ℤ) (hv : Units v) (hw : Units w) where
       half = omega arith
 
   -- one of the pairs is 0
-  pub pf-zero : (p : ℕ) (a : Mat) → IsPairs (2 * p) v w a → (j : ℕ) → j < p → v j ≡ pos 0 → Dy 0 (pos 0) (pfaffian_of (2 * p) a)
-  pf-zero p a m j h e = subst (λ (z : ℤ). Dy 0 z (pfaffian_of (2 * p) a)) (product-zero v p j h e) (pf-pairs p a m)
+  pub pf-zero : (p : ℕ) (a : Mat) → IsPairs (2 * p) v w a → (j : ℕ) → j < p → v j ≡ pos 0 → Dy 0 (pos 0) (pfaffian_number (2 * p) a)
+  pf-zero p a m j h e = subst (λ (z : ℤ). Dy 0 z (pfaffian_number (2 * p) a)) (product-zero v p j h e) (pf-pairs p a m)
 
 -- ---- as a float
 
 -- of any matrix
-pub pf-fits : (dim : ℕ) (a : Mat) → T (fits binary64 (pfaffian_of dim a))
-unfolding pfaffian_of pf fits
+pub pf-fits : (dim : ℕ) (a : Mat) → T (fits binary64 (pfaffian_number dim a))
+unfolding pfaffian_number pf fits
 pf-fits dim a = cond-fits binary64 (eqb (dim % 2) 1) +0 (pf a (dim / 2) 0 dim +1) tt (each (dim / 2) 0 a +1 tt)
   where
     each : (p k : ℕ) (a : Mat) (acc : Float) → T (fits binary64 acc) → T (fits binary64 (pf a p k dim acc))
@@ -240,7 +241,7 @@ sign-float s x f d =
 
 -- no pair is 0
 pub pf-signs : (v w : ℕ → ℤ) → Units v → Units w → (p : ℕ) (a : Mat) → IsPairs (2 * p) v w a → (s : ℕ → Bool)
-    → ((j : ℕ) → j < p → v j ≡ with_sign (s j) 1) → pfaffian_of (2 * p) a ≡ sg (oddly s p) +1
+    → ((j : ℕ) → j < p → v j ≡ with_sign (s j) 1) → pfaffian_number (2 * p) a ≡ sg (oddly s p) +1
 pf-signs v w hv hw p a m s h =
-    sign-float (oddly s p) (pfaffian_of (2 * p) a) (pf-fits (2 * p) a)
-    (subst (λ (z : ℤ). Dy 0 z (pfaffian_of (2 * p) a)) (product-signs v s p h) (pf-pairs v w hv hw p a m))
+    sign-float (oddly s p) (pfaffian_number (2 * p) a) (pf-fits (2 * p) a)
+    (subst (λ (z : ℤ). Dy 0 z (pfaffian_number (2 * p) a)) (product-signs v s p h) (pf-pairs v w hv hw p a m))

@@ -20,10 +20,12 @@ use Rattle.monomial.specs.Monomial.{flip}
 use Rattle.state.specs.Questions.{state_ok}
 use Rattle.state.specs.Answers.{accepted, refused}
 use Rattle.state.proofs.Permutations.{mode-below}
+use Rattle.queries.specs.Answers.{Number, Answered, without_row, given}
 use Rattle.queries.specs.Lists.{oddly, passing, mode_listed, outside, bad_place, odd_mode, odd_modes}
 use Rattle.queries.specs.Products.{dim_left, restricted, product_of}
 use Rattle.queries.specs.Calls.{covariance_of, work_ok, worked, expectation_z_product_of}
 use Rattle.queries.proofs.Searches.{odd-same, passing-ascends}
+use Rattle.queries.proofs.Rows.{product-number}
 use Rattle.basis.specs.Holds.{Reads}
 use Rattle.basis.specs.Answers.{odd_ones, register_product}
 use Rattle.basis.proofs.Pairs.{pf-signs}
@@ -53,10 +55,11 @@ module _ (n : ℕ) (b r : ℕ → Bool) (e : Mat) (modes : List ℕ) (h : Reads 
       ∙ odd-same (λ j. b (mode_listed modes qs j)) (λ j. r (get_or qs j 0)) (length qs) (λ j g. h.bits (get_or qs j 0) (below j g))
       ∙ odd-ones r qs
 
-  product_is : product_of e (odd_modes n modes qs) ≡ register_product r qs
-  unfolding product_of odd_modes
+  product_is : (product_of e (odd_modes n modes qs)).value ≡ register_product r qs
+  unfolding odd_modes
   product_is =
-      pf-signs (λ j. with_sign (bit j) 1) (λ j. with_sign (not (bit j)) 1) (λ j. unit (bit j)) (λ j. unit (not (bit j))) (length l) (restricted e l)
+      product-number e l
+      ∙ pf-signs (λ j. with_sign (bit j) 1) (λ j. with_sign (not (bit j)) 1) (λ j. unit (bit j)) (λ j. unit (not (bit j))) (length l) (restricted e l)
       (listed-basis (odd_mode modes qs (length qs)) n l (passing-ascends (odd_mode modes qs (length qs)) n) b e h.covariance)
       bit (λ j g. refl)
       ∙ ap (λ (t : Bool). sg t +1) (odd-left l refl)
@@ -71,7 +74,7 @@ module _ (n : ℕ) (b r : ℕ → Bool) (e : Mat) (modes : List ℕ) (h : Reads 
       unit s = rw (abs-sign s 1) (le_refl 1)
 
 pub product-told : (n : ℕ) (b r : ℕ → Bool) (s : List Float) (modes : List ℕ) → Reads n b r (covariance_of n s) modes → (qs : List ℕ) (w : List Float)
-    → (expectation_z_product_of n s modes qs w).number ≡ 0 → expectation_z_product_of n s modes qs w ≡ accepted (register_product r qs)
+    → (expectation_z_product_of n s modes qs w).told.number ≡ 0 → (expectation_z_product_of n s modes qs w).told ≡ accepted (register_product r qs)
 unfolding expectation_z_product_of worked bad_place
 product-told n b r s modes h qs w e =
     by (state_ok n s modes) (ltb (bad_place n qs) (length qs)) (work_ok (dim_left l) w) refl e
@@ -79,17 +82,20 @@ product-told n b r s modes h qs w e =
     l : List ℕ
     l = odd_modes n modes qs
 
-    z : Float
+    z : Number
     z = product_of (covariance_of n s) l
 
-    is : ltb (bad_place n qs) (length qs) ≡ false → z ≡ register_product r qs
+    is : ltb (bad_place n qs) (length qs) ≡ false → z.value ≡ register_product r qs
     is f =
         product_is n b r (covariance_of n s) modes h qs (λ j g. leb-false n (get_or qs j 0)
         (none_passes (outside n qs) (length qs) (ltb-false (bad_place n qs) (length qs) f) j g))
 
+    answer : Bool → Bool → Bool → Answered
+    answer t u v =
+        cond t (cond u (without_row (refused 19 (bad_place n qs))) (cond v (given z) (without_row (refused 20 0)))) (without_row (refused 16 0))
+
     by : (t u v : Bool) → ltb (bad_place n qs) (length qs) ≡ u
-        → (cond t (cond u (refused 19 (bad_place n qs)) (cond v (accepted z) (refused 20 0))) (refused 16 0)).number ≡ 0
-        → cond t (cond u (refused 19 (bad_place n qs)) (cond v (accepted z) (refused 20 0))) (refused 16 0) ≡ accepted (register_product r qs)
+        → (answer t u v).told.number ≡ 0 → (answer t u v).told ≡ accepted (register_product r qs)
     by true false true f e = ap accepted (is f)
     by true false false f e = absurd (omega arith)
     by true true v f e = absurd (omega arith)

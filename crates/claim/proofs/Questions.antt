@@ -15,6 +15,7 @@ use Rattle.laws.specs.Zeros.{+0}
 use Rattle.laws.specs.Tests.{all_below}
 use Rattle.laws.proofs.Tests.{all-each, all_of, all-fails}
 use Rattle.state.specs.Modes.{is_permutation}
+use Rattle.queries.specs.Answers.{Number, without_row, given}
 use Rattle.queries.specs.Lists.{first, outside, bad_place, odd_modes, bits_ok, stop_place, asked, noted_modes}
 use Rattle.queries.specs.Basis.{basis_mark}
 use Rattle.basis.proofs.First.{first_passes, none_passes}
@@ -57,15 +58,15 @@ module _ (n : ℕ) (s : List Float) (modes : List ℕ) (ok : state_ok n s modes 
   p = (questions.asked n s modes ok).permutation
 
   -- a number that needs work
-  worked-exactly : (dim : ℕ) (x : Float) (w : List Float) → eqb (worked dim x w).number 0 ≡ work_ok dim w
+  worked-exactly : (dim : ℕ) (x : Number) (w : List Float) → eqb (worked dim x w).told.number 0 ≡ work_ok dim w
   unfolding worked
   worked-exactly dim x w = by (work_ok dim w)
     where
-      by : (t : Bool) → eqb (cond t (accepted x) (refused 20 0)).number 0 ≡ t
+      by : (t : Bool) → eqb (cond t (given x) (without_row (refused 20 0))).told.number 0 ≡ t
       by true = refl
       by false = refl
 
-  product-exactly : (qs : List ℕ) (w : List Float) → eqb (expectation_z_product_of n s modes qs w).number 0 ≡ product_passes n qs w
+  product-exactly : (qs : List ℕ) (w : List Float) → eqb (expectation_z_product_of n s modes qs w).told.number 0 ≡ product_passes n qs w
   unfolding expectation_z_product_of bad_place
   product-exactly qs w = rw ok (by (ltb (bad_place n qs) (length qs)) refl)
     where
@@ -76,7 +77,8 @@ module _ (n : ℕ) (s : List Float) (modes : List ℕ) (ok : state_ok n s modes 
       listed all j h = ltb-true (get_or qs j 0) n (all-each (λ j. ltb (get_or qs j 0) n) (length qs) j all h)
 
       by : (t : Bool) → ltb (bad_place n qs) (length qs) ≡ t
-          → eqb (cond t (refused 19 (bad_place n qs)) (product_answer (covariance_of n s) (odd_modes n modes qs) w)).number 0 ≡ product_passes n qs w
+          → eqb (cond t (without_row (refused 19 (bad_place n qs))) (product_answer (covariance_of n s) (odd_modes n modes qs) w)).told.number 0
+          ≡ product_passes n qs w
       by true e = sym (rw (sym exist, e) refl)
       by false e =
           let all : qubits_exist n qs ≡ true = sym exist ∙ ap not e in
@@ -84,7 +86,7 @@ module _ (n : ℕ) (s : List Float) (modes : List ℕ) (ok : state_ok n s modes 
           ∙ ap (λ k. has_places k w) (product-left n modes p qs (listed all))
           ∙ sym (rw all refl)
 
-  marginal-exactly : (qs xs : List ℕ) (w : List Float) → eqb (marginal_probability_of n s modes qs xs w).number 0 ≡ marginal_passes n qs xs w
+  marginal-exactly : (qs xs : List ℕ) (w : List Float) → eqb (marginal_probability_of n s modes qs xs w).told.number 0 ≡ marginal_passes n qs xs w
   unfolding marginal_probability_of bits_ok stopped_of
   marginal-exactly qs xs w = rw ok (ask (bits_match qs xs))
     where
@@ -92,7 +94,7 @@ module _ (n : ℕ) (s : List Float) (modes : List ℕ) (ok : state_ok n s modes 
       place = stop_place n modes qs xs
 
       of_list : (t u : Bool)
-          → eqb (cond t (cond u (refused 19 place) (accepted +0)) (marked_answer (covariance_of n s) n (asked modes qs xs) w)).number 0
+          → eqb (cond t (without_row (cond u (refused 19 place) (accepted +0))) (marked_answer (covariance_of n s) n (asked modes qs xs) w)).told.number 0
           ≡ cond t (not u) (work_ok (dim_left (noted_modes n (asked modes qs xs))) w)
       of_list true true = refl
       of_list true false = refl
@@ -100,9 +102,9 @@ module _ (n : ℕ) (s : List Float) (modes : List ℕ) (ok : state_ok n s modes 
 
       ask : (t : Bool)
           → eqb (cond t
-          (cond (ltb place (length qs)) (cond (leb n (get_or qs place 0)) (refused 19 place) (accepted +0))
+          (cond (ltb place (length qs)) (without_row (cond (leb n (get_or qs place 0)) (refused 19 place) (accepted +0)))
           (marked_answer (covariance_of n s) n (asked modes qs xs) w))
-          (refused 18 0)).number 0
+          (without_row (refused 18 0))).told.number 0
           ≡ (t && (read_qubits_exist n qs xs && (not (agree qs xs (length qs)) || has_places (left_of_marginal n qs) w)))
       ask true = of_list (ltb place (length qs)) (leb n (get_or qs place 0)) ∙ marginal-asked n modes p qs xs w
       ask false = refl

@@ -18,7 +18,8 @@ pub data Query : Type 0 where
   -- `sample`: shots, draws; work, output
   sample : ℕ → List Float → List Float → List ℕ → Query
 
--- what a call gives: its answer, and its output afterwards, where it has one
+-- what a call gives: its answer, and its output afterwards, where it has one. The row beside a product's or marginal's number is left out: a register knows
+-- none, and the marginal of 0 1 that asks for 0 0 stops in row 2 (law `register-stops`, crate `queries`, proofs/Rows.antt)
 pub record Given : Type 0 where
   pub told : Told
   pub out : List ℕ
@@ -30,8 +31,8 @@ number x = record { told = x; out = [] }
 
 -- on the state of n qubits in the slice s, with this mode table
 abbrev pub answer : ℕ → List Float → List ℕ → Query → Given
-answer n s modes (product qs w) = number (expectation_z_product_of n s modes qs w)
-answer n s modes (marginal qs bits w) = number (marginal_probability_of n s modes qs bits w)
+answer n s modes (product qs w) = number (expectation_z_product_of n s modes qs w).told
+answer n s modes (marginal qs bits w) = number (marginal_probability_of n s modes qs bits w).told
 answer n s modes (probability low high w) = number (probability_of n s modes low high w)
 answer n s modes (sample shots draws w out) = record { told = sample_of n s modes shots draws w out; out = sample_out n s modes shots draws w out }
 

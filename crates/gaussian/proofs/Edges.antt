@@ -102,7 +102,8 @@ pub record Ordered (r : Report) (o : Ordering) (order modes : List ℕ) : Type 0
 -- of the report and the state that a run gives and leaves
 abbrev pub Seen : Report → List Float → Shown → Type 0
 Seen r s (order o wires modes) = Ordered r o wires modes
-Seen r s (parity q x) = (w : List Float) → 4 ≤ length w → expectation_z_product_of r.n s r.modes (q ∷ []) w ≡ Answers.accepted x
+Seen r s (parity q x) =
+    (w : List Float) → 4 ≤ length w → (expectation_z_product_of r.n s r.modes (q ∷ []) w).told ≡ Answers.accepted x
 Seen r s (fraction x) = r.fraction ≡ x
 
 -- ---- what the tapes are parsed to

@@ -30,7 +30,8 @@ use Rattle.gaussian.proofs.Claim.{register-claim}
 -- the product of qubit q alone, put to the state that the run leaves, with the run's n and mode table, and with work w
 abbrev pub z_after : List ℕ → List Float → List ℕ → List Float → List Float → ℕ → List Float → Told
 z_after t work marks ops state q w =
-    expectation_z_product_of (ran t work marks ops state).report.n (ran_state t work marks ops state) (ran t work marks ops state).report.modes (q ∷ []) w
+    let r = (ran t work marks ops state).report in
+    (expectation_z_product_of r.n (ran_state t work marks ops state) r.modes (q ∷ []) w).told
 
 -- a tape whose gates have a register's codes
 pub register-tape : (t : List ℕ) (h : Header) (c : Content) → parse t ≡ accepted h c

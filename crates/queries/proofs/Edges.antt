@@ -18,7 +18,7 @@ use Rattle.laws.specs.Tables.{mode_at}
 use Rattle.pfaffian.specs.Pfaffian.{pfaffian_of}
 use Rattle.pfaffian.proofs.Examples as pfaffian
 use Rattle.state.specs.Questions.{state_ok}
-use Rattle.state.specs.Answers.{Told, accepted}
+use Rattle.queries.specs.Answers.{Number, Answered, rowless, taken_apart, without_row, given}
 use Rattle.queries.specs.Lists.{first_from, oddly, bad_place, odd_modes, noted, bits_ok, stop_place, asked, noted_modes}
 use Rattle.queries.specs.Products.{dim_left, restricted, product_of}
 use Rattle.queries.specs.Marginals.{asked_matrix, at_least_zero_of, marked_of}
@@ -34,12 +34,13 @@ pub data Query : Type 0 where
   marginal : List ℕ → List ℕ → Query
   basis : ℕ → ℕ → Query
 
-abbrev pub answer_of : ℕ → List Float → List ℕ → List Float → Query → Told
+-- as it is answered, a basis index without a row
+abbrev pub answer_of : ℕ → List Float → List ℕ → List Float → Query → Answered
 answer_of n s modes w (product qs) = expectation_z_product_of n s modes qs w
 answer_of n s modes w (marginal qs bits) = marginal_probability_of n s modes qs bits w
-answer_of n s modes w (basis low high) = probability_of n s modes low high w
+answer_of n s modes w (basis low high) = without_row (probability_of n s modes low high w)
 
--- a query on n qubits, and its number
+-- a query on n qubits, and its number, which has no row
 pub data Edge : ℕ → Query → Float → Type 0 where
   no-qubits : (n : ℕ) → Edge n (product []) +1
   twice : (n q : ℕ) → q < n → Edge n (product (q ∷ q ∷ [])) +1
@@ -50,16 +51,17 @@ pub data Edge : ℕ → Query → Float → Type 0 where
 
 -- ---- nothing left
 
-nothing-worked : (x : Float) (l : List ℕ) (w : List Float) → l ≡ [] → worked (dim_left l) x w ≡ accepted x
+nothing-worked : (x : Number) (l : List ℕ) (w : List Float) → l ≡ [] → worked (dim_left l) x w ≡ given x
 unfolding worked
 nothing-worked x l w e = ap (λ l. worked (dim_left l) x w) e ∙ rw (le-leb 0 (length w) zero-le)
 
-product-nothing : (e : Mat) (l : List ℕ) → l ≡ [] → product_of e l ≡ +1
+product-nothing : (e : Mat) (l : List ℕ) → l ≡ [] → product_of e l ≡ rowless +1
 unfolding product_of
-product-nothing e l q = ap (λ l. pfaffian_of (dim_left l) (restricted e l)) q ∙ pfaffian.pfaffian-edge pfaffian.none (restricted e [])
+product-nothing e l q =
+    ap (taken_apart (λ x. x)) (ap (λ l. pfaffian_of (dim_left l) (restricted e l)) q ∙ pfaffian.pfaffian-edge pfaffian.none (restricted e []))
 
-left-nothing : (e : Mat) (l : List ℕ) (w : List Float) → l ≡ [] → worked (dim_left l) (product_of e l) w ≡ accepted +1
-left-nothing e l w q = nothing-worked (product_of e l) l w q ∙ ap accepted (product-nothing e l q)
+left-nothing : (e : Mat) (l : List ℕ) (w : List Float) → l ≡ [] → worked (dim_left l) (product_of e l) w ≡ given (rowless +1)
+left-nothing e l w q = nothing-worked (product_of e l) l w q ∙ ap given (product-nothing e l q)
 
 one-one : at_least_zero_of (mul binary64 +1 +1) ≡ +1
 unfolding mul sum round units odd size climb span lt count_trailing_zeros
@@ -72,15 +74,16 @@ module _ (e : Mat) (n : ℕ) (mark : ℕ → ℕ) (none : (k : ℕ) → k < n �
   no_ones : oddly (λ k. eqb (mark k) 2) n ≡ false
   no_ones = odd-none (λ k. eqb (mark k) 2) n (λ k h. ap (λ x. eqb x 2) (none k h))
 
-  marked-nothing : marked_of e n mark ≡ +1
+  marked-nothing : marked_of e n mark ≡ rowless +1
   unfolding marked_of
   marked-nothing =
-      (λ t. at_least_zero_of (mul binary64 (sg (no_ones t) +1) (pfaffian_of (dim_left (unmarked t)) (asked_matrix e mark (unmarked t)))))
-      ∙ ap (λ x. at_least_zero_of (mul binary64 +1 x)) (pfaffian.pfaffian-edge pfaffian.none (asked_matrix e mark []))
-      ∙ one-one
+      (λ t.
+      taken_apart (λ x. at_least_zero_of (mul binary64 (sg (no_ones t) +1) x)) (pfaffian_of (dim_left (unmarked t)) (asked_matrix e mark (unmarked t))))
+      ∙ ap (taken_apart (λ x. at_least_zero_of (mul binary64 +1 x))) (pfaffian.pfaffian-edge pfaffian.none (asked_matrix e mark []))
+      ∙ ap rowless one-one
 
-  unasked : (w : List Float) → marked_answer e n mark w ≡ accepted +1
-  unasked w = nothing-worked (marked_of e n mark) (noted_modes n mark) w unmarked ∙ ap accepted marked-nothing
+  unasked : (w : List Float) → marked_answer e n mark w ≡ given (rowless +1)
+  unasked w = nothing-worked (marked_of e n mark) (noted_modes n mark) w unmarked ∙ ap given marked-nothing
 
 -- ---- a qubit listed twice
 
@@ -113,7 +116,7 @@ module _ (n q b b' : ℕ) (modes qs bits : List ℕ) (h : q < n) (ne : b ≢ b')
 -- ---- the theorem
 
 pub edge : {n : ℕ} {a : Query} {x : Float} → Edge n a x → (s : List Float) (modes : List ℕ) (w : List Float) → state_ok n s modes ≡ true
-    → answer_of n s modes w a ≡ accepted x
+    → answer_of n s modes w a ≡ given (rowless x)
 unfolding expectation_z_product_of marginal_probability_of probability_of bad_place stop_place first_from bits_ok all_below odd_modes oddly noted stopped_of
 edge (no-qubits n) s modes w ok = rw ok (left-nothing (covariance_of n s) (odd_modes n modes []) w (passing-none _ n (λ k h. refl)))
 edge (twice n q h) s modes w ok =
@@ -121,7 +124,7 @@ edge (twice n q h) s modes w ok =
 edge (no_bits n) s modes w ok = rw ok (unasked (covariance_of n s) n (asked modes [] []) (λ k h. refl) w)
 edge (against n q b b' qs bits h ne fine) s modes w ok =
     rw (ok, fine, against-place n q b b' modes qs bits h ne, against-within n q b b' modes qs bits h ne, lt-leb n q h)
-edge (no-modes low high) s modes w ok = rw ok (unasked (covariance_of 0 s) 0 (basis_mark 0 modes low high) (λ k h. refl) w)
+edge (no-modes low high) s modes w ok = rw ok (ap (λ a. without_row a.told) (unasked (covariance_of 0 s) 0 (basis_mark 0 modes low high) (λ k h. refl) w))
 
 -- ---- the scope's own rows: [0, 0], and a contradiction before a qubit that is not below n
 

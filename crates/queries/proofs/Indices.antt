@@ -88,15 +88,16 @@ module _ (n low high : ℕ) where
         ∙ ap (λ i. noted (mode_listed modes (all_qubits n)) (bit_listed (basis_bits n low high)) i k) (sym qubits-long)
 
   module _ (s : List Float) (modes : List ℕ) (w : List Float) where
-    pub basis-is-marginal : probability_of n s modes low high w ≡ marginal_probability_of n s modes (all_qubits n) (basis_bits n low high) w
+    -- but for the row
+    pub basis-is-marginal : probability_of n s modes low high w ≡ (marginal_probability_of n s modes (all_qubits n) (basis_bits n low high) w).told
     unfolding probability_of marginal_probability_of
     basis-is-marginal = by (state_ok n s modes) refl
       where
         by : (t : Bool) → state_ok n s modes ≡ t
-            → probability_of n s modes low high w ≡ marginal_probability_of n s modes (all_qubits n) (basis_bits n low high) w
+            → probability_of n s modes low high w ≡ (marginal_probability_of n s modes (all_qubits n) (basis_bits n low high) w).told
         by true e =
             let p = (questions.asked n s modes e).permutation in
-            rw (e, bits-fine, reads_all modes p) (answer-alike n _ _ (marks-alike modes p) (covariance_of n s) w)
+            rw (e, bits-fine, reads_all modes p) (ap (λ a. a.told) (answer-alike n _ _ (marks-alike modes p) (covariance_of n s) w))
         by false e = rw e
 
     pub basis-work-is-marginal : probability_work n s modes low high w ≡ marginal_probability_work n s modes (all_qubits n) (basis_bits n low high) w

@@ -17,6 +17,7 @@ use Rattle.pfaffian.specs.Pfaffian.{pfaffian_of}
 use Rattle.pfaffian.specs.Shot.{half}
 use Rattle.pfaffian.proofs.Congruent.{pfaffian-same}
 use Rattle.queries.specs.Lists.{noted_modes}
+use Rattle.queries.specs.Answers.{taken_apart}
 use Rattle.queries.specs.Products.{restricted, dim_left}
 use Rattle.queries.specs.Marginals.{is_one, half_spin_of, shifted, halved, asked_matrix, sign_of, at_least_zero_of, marked_of}
 use Rattle.queries.specs.Calls.{work_ok, cleared, marked_answer, marked_work, worked, worked_work}
@@ -86,7 +87,7 @@ module _ (n : ℕ) (f g : ℕ → ℕ) (h : (k : ℕ) → k < n → f k ≡ g k)
 
   pub marked-alike : (e : Mat) → marked_of e n f ≡ marked_of e n g
   unfolding marked_of
-  marked-alike e = λ t. at_least_zero_of (mul binary64 (sign t) (value t))
+  marked-alike e = λ t. taken_apart (λ x. at_least_zero_of (mul binary64 (sign t) x)) (value t)
     where
       l : List ℕ
       l = noted_modes n f

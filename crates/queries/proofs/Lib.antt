@@ -7,4 +7,6 @@ pub mod Sampling
 pub mod Same
 pub mod Indices
 pub mod One
+pub mod Rows
+pub mod Apart
 pub mod Edges

@@ -1,4 +1,5 @@
--- Covariances that are equal up to the sign of a zero give the same answers: products up to that sign, marginals and shots exactly. Assumes nothing.
+-- Covariances that are equal up to the sign of a zero give the same answers: products up to that sign, with the same rows; marginals and shots exactly.
+-- Assumes nothing.
 use mathlib.Core.Path.{◌≡◌, refl, sym, ap, ◌∙◌}
 use mathlib.Core.Bool.{false, cond, ◌&&◌}
 use mathlib.Core.List.{List}
@@ -10,13 +11,15 @@ use lib.Ieee.{Float, nan, inf, fin, binary64, add, sub, mul, lt}
 use Rattle.laws.specs.Zeros.{+0, nz}
 use Rattle.laws.specs.Matrix.{Mat}
 use Rattle.laws.specs.Tables.{mode_at}
-use Rattle.laws.proofs.Zeros.{lt-nz, add_cong, sub-cong, mul-cong, cond-cong}
+use Rattle.laws.proofs.Zeros.{lt-nz, nz-nz, add_cong, sub-cong, mul-cong, cond-cong}
 use Rattle.laws.proofs.Views.{up_same}
-use Rattle.pfaffian.specs.Pfaffian.{pfaffian_of}
+use Rattle.pfaffian.specs.declared.pairs.End.{End}
+use Rattle.pfaffian.specs.declared.pairs.End.TheVariants.{Value, Stopped}
 use Rattle.pfaffian.specs.Shot.{half, draw_from}
 use Rattle.pfaffian.proofs.Seen.{Alike}
-use Rattle.pfaffian.proofs.Congruent.{pfaffian-cong}
+use Rattle.pfaffian.proofs.Congruent.{seen_of, pfaffian-cong}
 use Rattle.pfaffian.proofs.SameShots.{shot-cong}
+use Rattle.queries.specs.Answers.{rowless, taken_apart}
 use Rattle.queries.specs.Lists.{passing, odd_mode, odd_modes, noted_modes}
 use Rattle.queries.specs.Products.{index_of, restricted, dim_left, product_of}
 use Rattle.queries.specs.Marginals.{half_spin_of, halved, asked_matrix, sign_of, at_least_zero_of, marked_of}
@@ -38,6 +41,29 @@ positive-nz (fin s (suc m) e) = refl
 positive-cong : (x y : Float) → nz x ≡ nz y → at_least_zero_of x ≡ at_least_zero_of y
 positive-cong x y h = positive-nz x ∙ ap at_least_zero_of h ∙ sym (positive-nz y)
 
+-- ---- what is taken apart of a Pfaffian is told by what is seen of it
+
+seen-product : (p q : End) → seen_of nz p ≡ seen_of nz q
+    → (nz (taken_apart (λ x. x) p).value ≡ nz (taken_apart (λ x. x) q).value) × ((taken_apart (λ x. x) p).row ≡ (taken_apart (λ x. x) q).row)
+seen-product p q h = (value p ∙ ap (λ p. (taken_apart (λ x. x) p).value) h ∙ sym (value q), row p ∙ ap (λ p. (taken_apart (λ x. x) p).row) h ∙ sym (row q))
+  where
+    value : (p : End) → nz (taken_apart (λ x. x) p).value ≡ (taken_apart (λ x. x) (seen_of nz p)).value
+    value (Value x) = refl
+    value (Stopped k) = refl
+
+    row : (p : End) → (taken_apart (λ x. x) p).row ≡ (taken_apart (λ x. x) (seen_of nz p)).row
+    row (Value x) = refl
+    row (Stopped k) = refl
+
+seen-marginal : (s : Float) (p q : End) → seen_of nz p ≡ seen_of nz q
+    → taken_apart (λ x. at_least_zero_of (mul binary64 s x)) p ≡ taken_apart (λ x. at_least_zero_of (mul binary64 s x)) q
+seen-marginal s p q h = seen p ∙ ap (taken_apart (λ x. at_least_zero_of (mul binary64 s x))) h ∙ sym (seen q)
+  where
+    seen : (p : End)
+        → taken_apart (λ x. at_least_zero_of (mul binary64 s x)) p ≡ taken_apart (λ x. at_least_zero_of (mul binary64 s x)) (seen_of nz p)
+    seen (Value x) = ap rowless (positive-cong (mul binary64 s x) (mul binary64 s (nz x)) (mul-cong s x s (nz x) refl (sym (nz-nz x))))
+    seen (Stopped k) = refl
+
 module _ (e e' : Mat) (n : ℕ) (h : Alike nz 0 (2 * n) e e') where
   -- modes below n
   module _ (l : List ℕ) (below : (j : ℕ) → j < length l → get_or l j 0 < n) where
@@ -47,9 +73,9 @@ module _ (e e' : Mat) (n : ℕ) (h : Alike nz 0 (2 * n) e e') where
     restricted-cong : Alike nz 0 (dim_left l) (restricted e l) (restricted e' l)
     restricted-cong r c lr hr lc hc = h (index_of l r) (index_of l c) (omega arith) (row_below r hr) (omega arith) (row_below c hc)
 
-    pub product-cong : nz (product_of e l) ≡ nz (product_of e' l)
+    pub product-cong : (nz (product_of e l).value ≡ nz (product_of e' l).value) × ((product_of e l).row ≡ (product_of e' l).row)
     unfolding product_of
-    product-cong = pfaffian-cong (restricted e l) (restricted e' l) (dim_left l) restricted-cong
+    product-cong = seen-product _ _ (pfaffian-cong (restricted e l) (restricted e' l) (dim_left l) restricted-cong)
 
     asked-cong : (mark : ℕ → ℕ) → Alike nz 0 (dim_left l) (asked_matrix e mark l) (asked_matrix e' mark l)
     asked-cong mark r c lr hr lc hc =
@@ -63,7 +89,9 @@ module _ (e e' : Mat) (n : ℕ) (h : Alike nz 0 (2 * n) e e') where
         (cond-cong lower (sub binary64 x s) x (sub binary64 y s) y (sub-cong x s y s xy refl) xy)
 
   -- the product over a list
-  pub odd-product-cong : (modes qs : List ℕ) → nz (product_of e (odd_modes n modes qs)) ≡ nz (product_of e' (odd_modes n modes qs))
+  pub odd-product-cong : (modes qs : List ℕ)
+      → (nz (product_of e (odd_modes n modes qs)).value ≡ nz (product_of e' (odd_modes n modes qs)).value)
+      × ((product_of e (odd_modes n modes qs)).row ≡ (product_of e' (odd_modes n modes qs)).row)
   unfolding odd_modes
   odd-product-cong modes qs =
       product-cong (passing (odd_mode modes qs (length qs)) n) (passing-ascends (odd_mode modes qs (length qs)) n).below
@@ -73,12 +101,9 @@ module _ (e e' : Mat) (n : ℕ) (h : Alike nz 0 (2 * n) e e') where
   unfolding marked_of
   marked-cong mark =
       let l = noted_modes n mark in
-      let x = pfaffian_of (dim_left l) (asked_matrix e mark l) in
-      let y = pfaffian_of (dim_left l) (asked_matrix e' mark l) in
-      positive-cong (mul binary64 (sign_of n mark) x) (mul binary64 (sign_of n mark) y)
-      (mul-cong (sign_of n mark) x (sign_of n mark) y refl
+      seen-marginal (sign_of n mark) _ _
       (pfaffian-cong (asked_matrix e mark l) (asked_matrix e' mark l) (dim_left l)
-      (asked-cong l (passing-ascends (λ k. ltb 0 (mark k)) n).below mark)))
+      (asked-cong l (passing-ascends (λ k. ltb 0 (mark k)) n).below mark))
 
   -- a shot, and all of them
   pub shot-at-cong : (modes : List ℕ) (draws : List Float) (i : ℕ) → shot_at e n modes draws i ≡ shot_at e' n modes draws i

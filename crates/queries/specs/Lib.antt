@@ -1,5 +1,6 @@
 -- What the contracts of `queries` speak of. Definitions only.
 pub mod Lists
+pub mod Answers
 pub mod Products
 pub mod Marginals
 pub mod Basis

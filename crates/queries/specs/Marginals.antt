@@ -1,5 +1,6 @@
 -- The probability that modes read their bits (001, `marginal_probability`): 0.5 · m, with 0.5 added and taken away in each mode's pair of entries;
--- the Pfaffian with the sign of the bits' parity; never below zero. What is asked of a mode is its mark: 0 nothing, else one more than the bit.
+-- the Pfaffian with the sign of the bits' parity, and the row where it stopped; never below zero. What is asked of a mode is its mark: 0 nothing, else one
+-- more than the bit.
 -- Definitions only. A public promise rests on this.
 use Rattle.std.specs.Prelude.{Bool, cond, ◌&&◌, List, ℕ, ◌+◌, ◌/◌, ◌%◌, eqb, get_or, Float}
 use Rattle.std.specs.Float.{binary64}
@@ -10,6 +11,7 @@ use Rattle.pfaffian.specs.Pfaffian.{pfaffian_of}
 use Rattle.pfaffian.specs.Shot.{half}
 use Rattle.queries.specs.Lists.{oddly, noted_modes}
 use Rattle.queries.specs.Products.{restricted, dim_left}
+use Rattle.queries.specs.Answers.{Number, taken_apart}
 
 -- the mark of a mode that is asked for a one
 abbrev pub is_one : ℕ → Bool
@@ -41,7 +43,7 @@ sign_of n mark = sg (oddly (λ k. is_one (mark k)) n) +1
 abbrev pub at_least_zero_of : Float → Float
 at_least_zero_of x = cond (lt +0 x) x +0
 
-unfoldable pub marked_of : Mat → ℕ → (ℕ → ℕ) → Float
+unfoldable pub marked_of : Mat → ℕ → (ℕ → ℕ) → Number
 marked_of e n mark =
     let l = noted_modes n mark in
-    at_least_zero_of (mul binary64 (sign_of n mark) (pfaffian_of (dim_left l) (asked_matrix e mark l)))
+    taken_apart (λ x. at_least_zero_of (mul binary64 (sign_of n mark) x)) (pfaffian_of (dim_left l) (asked_matrix e mark l))

@@ -1,8 +1,9 @@
--- The product of Z over modes (001, `expectation_z_product`): the Pfaffian of the covariance's rows and columns that are theirs. Definitions only.
--- A public promise rests on this.
+-- The product of Z over modes (001, `expectation_z_product`): the Pfaffian of the covariance's rows and columns that are theirs, with the row where it
+-- stopped. Definitions only. A public promise rests on this.
 use Rattle.std.specs.Prelude.{List, ℕ, ◌+◌, ◌*◌, ◌/◌, ◌%◌, get_or, length, Float}
 use Rattle.laws.specs.Matrix.{Mat}
 use Rattle.pfaffian.specs.Pfaffian.{pfaffian_of}
+use Rattle.queries.specs.Answers.{Number, taken_apart}
 
 -- `idx`: of each mode k of the list its rows 2k and 2k + 1
 abbrev pub index_of : List ℕ → ℕ → ℕ
@@ -20,5 +21,5 @@ restricted e l r c = e (index_of l r) (index_of l c)
 abbrev pub dim_left : List ℕ → ℕ
 dim_left l = 2 * length l
 
-unfoldable pub product_of : Mat → List ℕ → Float
-product_of e l = pfaffian_of (dim_left l) (restricted e l)
+unfoldable pub product_of : Mat → List ℕ → Number
+product_of e l = taken_apart (λ x. x) (pfaffian_of (dim_left l) (restricted e l))

@@ -9,10 +9,12 @@ mod basis; // basis.rt: the probability of a basis index
 mod lists; // lists.rt: the list of a query, as marks of modes
 mod marginals; // marginals.rt: the probability of some qubits' bits
 mod matrices; // matrices.rt: the matrix of the modes left, in work
+mod number; // number.rt: a number and the row where its Pfaffian stopped
 mod products; // products.rt: products of Z
 mod samples; // samples.rt: shots
 
 pub use basis::probability;
 pub use marginals::marginal_probability;
+pub use number::{Answered, Number};
 pub use products::expectation_z_product;
 pub use samples::sample;

@@ -131,7 +131,7 @@ pub fn note_bits(
 }
 
 // The modes that pass a test, ascending, where those that do are among the given ones.
-pub fn list_modes<F: Fn(usize) -> bool>(among: Span, left: F) -> ArrayVec<usize, MAX_QUBITS>
+pub fn list_modes<F: Fn(usize) -> bool>(among: Span, left: F) -> ArrayVec<u16, MAX_QUBITS>
     requires room { among.end ≤ max_qubits }
     requires callable { (k : ℕ) → k < among.end → F.pre left k }
     ensures fits { array_vec_len result ≤ among.end }
@@ -142,7 +142,7 @@ pub fn list_modes<F: Fn(usize) -> bool>(among: Span, left: F) -> ArrayVec<usize,
     let mut list = ArrayVec::new();
     for k in among.low..among.end {
         if left(k) {
-            list.push(k);
+            list.push(k as u16);
         }
     }
     list

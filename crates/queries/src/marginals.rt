@@ -1,15 +1,19 @@
 // The probability that some qubits read their bits.
 
 ghost use Rattle.std.specs.Prelude.{◌≡◌, length};
-ghost use Rattle.state.specs.Answers.{told};
+ghost use Rattle.std.specs.Float.{binary64};
+ghost use Rattle.std.specs.Float.Ieee.{mul};
 ghost use Rattle.queries.specs.Lists.{oddly};
 ghost use Rattle.queries.specs.Marginals.{is_one, sign_of, at_least_zero_of};
+ghost use Rattle.queries.specs.Answers.{taken_apart, answered};
 ghost use Rattle.queries.specs.Calls.{covariance_of, marked_answer, marked_work, marginal_probability_of, marginal_probability_work};
 ghost use Rattle.queries.specs.Inner.{mark_at};
 
 use super::lists::{Noted, Span, check_bits, list_modes, note_bits};
 use super::matrices::{ask, pfaffian_cleared};
+use super::number::Number;
 use laws::MAX_QUBITS;
+use pfaffian::End;
 use real::Square;
 use state::{Checked, Refusal};
 
@@ -38,14 +42,24 @@ fn at_least_zero(x: f64) -> f64
     if x > 0.0 { x } else { 0.0 }
 }
 
+// The Pfaffian's answer as a marginal's: with the sign s, and never below zero.
+fn marginal_number(s: f64, end: End) -> Number
+    ensures { result ≡ taken_apart (λ x. at_least_zero_of (mul binary64 s x)) end }
+{
+    match end {
+        End::Value(x) => Number::rowless(at_least_zero(s * x)),
+        End::Stopped(row) => Number::stopped(row),
+    }
+}
+
 // The probability that the modes read the bits that they are asked for: question 20.
 pub fn marked_probability(
     checked: Checked,
     asked: &[Option<bool>],
     work: &mut [f64],
-) -> Result<f64, Refusal>
+) -> Result<Number, Refusal>
     requires { length asked.now ≡ checked.n }
-    ensures answer { told result ≡ marked_answer (covariance_of checked.entry.n checked.entry.state.now)
+    ensures answer { answered result ≡ marked_answer (covariance_of checked.entry.n checked.entry.state.now)
         checked.entry.n (mark_at asked.now) work.old }
     ensures work { work.new ≡ marked_work checked.entry.n (mark_at asked.now) work.old }
 {
@@ -60,8 +74,8 @@ pub fn marked_probability(
     }
     let mut m = Square { entries: work, dim };
     ask(checked, list.as_slice(), asked, &mut m);
-    let x = pfaffian_cleared(&mut m);
-    Ok(at_least_zero(sign(asked) * x))
+    let end = pfaffian_cleared(&mut m);
+    Ok(marginal_number(sign(asked), end))
 }
 
 // The probability that the listed qubits read their bits: questions 16, 18, 19 and 20. A list that contradicts itself has the probability
@@ -73,8 +87,8 @@ pub fn marginal_probability(
     qubits: &[usize],
     bits: &[u8],
     work: &mut [f64],
-) -> Result<f64, Refusal>
-    ensures answer { told result ≡ marginal_probability_of n state.now modes.now qubits.now
+) -> Result<Number, Refusal>
+    ensures answer { answered result ≡ marginal_probability_of n state.now modes.now qubits.now
         bits.now work.old }
     ensures work { work.new ≡ marginal_probability_work n state.now modes.now qubits.now
         bits.now work.old }
@@ -84,6 +98,6 @@ pub fn marginal_probability(
     let mut asked = [None; MAX_QUBITS];
     match note_bits(checked, qubits, bits, &mut asked)? {
         Noted::Agreeing => marked_probability(checked, &asked[..n], work),
-        Noted::Contradictory => Ok(0.0),
+        Noted::Contradictory => Ok(Number::rowless(0.0)),
     }
 }

@@ -15,20 +15,21 @@ ghost use Rattle.queries.specs.Marginals.{half_spin_of, asked_matrix};
 ghost use Rattle.queries.specs.Calls.{covariance_of, cleared};
 ghost use Rattle.queries.specs.Inner.{mark_of, mark_at, Below, row_laid, pair_shifted, pairs_shifted};
 
+use pfaffian::End;
 use real::Square;
 use state::Checked;
 
 // The state's row that is row r of the modes' matrix.
-fn index(list: &[usize], r: usize) -> usize
+fn index(list: &[u16], r: usize) -> usize
     requires r_in_bounds { r / 2 < length list.now }
     requires r_bound { get_or list.now (r / 2) 0 ≤ max_qubits }
     ensures { result ≡ index_of list.now r }
 {
-    2 * list[r / 2] + r % 2
+    2 * usize::from(list[r / 2]) + r % 2
 }
 
 // Row r of the modes' matrix, the two columns of a mode at once.
-fn restrict_row(checked: Checked, list: &[usize], m: &mut Square, r: usize)
+fn restrict_row(checked: Checked, list: &[u16], m: &mut Square, r: usize)
     requires below { Below checked.n list.now }
     requires rows { m.old.dim ≡ 2 * length list.now }
     requires row { r < m.old.dim }
@@ -47,7 +48,7 @@ fn restrict_row(checked: Checked, list: &[usize], m: &mut Square, r: usize)
 }
 
 // The modes' matrix: their rows and columns of the covariance.
-pub fn restrict(checked: Checked, list: &[usize], m: &mut Square)
+pub fn restrict(checked: Checked, list: &[u16], m: &mut Square)
     requires below { Below checked.n list.now }
     requires rows { m.old.dim ≡ 2 * length list.now }
     ensures { Becomes m.old m.new (matrix m.old.dim
@@ -87,19 +88,19 @@ fn shift_pair(m: &mut Square, a: usize, s: f64)
 }
 
 // Every pair, by what is asked of its mode.
-fn shift_pairs(m: &mut Square, list: &[usize], asked: &[Option<bool>])
+fn shift_pairs(m: &mut Square, list: &[u16], asked: &[Option<bool>])
     requires rows { m.old.dim ≡ 2 * length list.now }
     requires below { Below (length asked.now) list.now }
     ensures { Becomes m.old m.new (pairs_shifted m.old.dim asked.now list.now m.old.entries.now) }
 {
     for j in 0..list.len() {
-        let s = half_spin(asked[list[j]]);
+        let s = half_spin(asked[usize::from(list[j])]);
         shift_pair(m, 2 * j, s);
     }
 }
 
 // The matrix of a marginal.
-pub fn ask(checked: Checked, list: &[usize], asked: &[Option<bool>], m: &mut Square)
+pub fn ask(checked: Checked, list: &[u16], asked: &[Option<bool>], m: &mut Square)
     requires below { Below checked.n list.now }
     requires asked { Below (length asked.now) list.now }
     requires rows { m.old.dim ≡ 2 * length list.now }
@@ -122,11 +123,11 @@ pub fn clear(m: &mut Square)
 }
 
 // The Pfaffian of the matrix in work, which is then zero.
-pub fn pfaffian_cleared(m: &mut Square) -> f64
+pub fn pfaffian_cleared(m: &mut Square) -> End
     ensures value { result ≡ pfaffian_of m.old.dim (cells m.old) }
     ensures work { Becomes m.old m.new (cleared m.old.dim m.old.entries.now) }
 {
-    let x = pfaffian::pfaffian(m);
+    let end = pfaffian::pfaffian(m);
     clear(m);
-    x
+    end
 }

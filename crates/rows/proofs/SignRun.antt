@@ -104,7 +104,7 @@ module _ (work : List Float) (marks : List ℕ) (ops state : List Float) (roomy 
   unfolding of_bits
   no-zero = refl
 
-  answer-is : (w : List Float) → 4 ≤ length w → expectation_z_product_of 3 (left state) modes (2 ∷ []) w ≡ Answers.accepted f-1
+  answer-is : (w : List Float) → 4 ≤ length w → (expectation_z_product_of 3 (left state) modes (2 ∷ []) w).told ≡ Answers.accepted f-1
   answer-is w four =
       one-qubit 3 (left state) modes 2 ok (omega arith) w four
       ∙ ap (λ (z : Float). Answers.accepted (nz z)) (ap (z_of (get (state_at (dim_of 3) (left state)))) mode-is ∙ entry-is ∙ turned)
@@ -116,7 +116,7 @@ module _ (work : List Float) (marks : List ℕ) (ops state : List Float) (roomy 
   sign-row = (
     ap (λ (c : Compiled). c.answer) run_is,
     λ w four.
-        (λ i. expectation_z_product_of (run_is i).report.n (left_is i) (run_is i).report.modes (2 ∷ []) w)
-        ∙ (λ i. expectation_z_product_of (n-is i) (left state) modes (2 ∷ []) w)
+        (λ i. (expectation_z_product_of (run_is i).report.n (left_is i) (run_is i).report.modes (2 ∷ []) w).told)
+        ∙ (λ i. (expectation_z_product_of (n-is i) (left state) modes (2 ∷ []) w).told)
         ∙ answer-is w four,
   )

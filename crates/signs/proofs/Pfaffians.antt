@@ -20,7 +20,8 @@ use Rattle.laws.proofs.Zeros.{div-cong, lt-cong, eq-cong}
 use Rattle.laws.proofs.Phases.{comm}
 use Rattle.num.specs.Order.{abs_of}
 use Rattle.num.proofs.Alike.{abs-cong}
-use Rattle.pfaffian.specs.Pfaffian.{search, pivot_of, pivoted, less, pf}
+use Rattle.pfaffian.specs.Pfaffian.{search, pivot_of, pivoted, less}
+use Rattle.pfaffian.proofs.Number.{pf}
 use Rattle.signs.specs.Paulis.{Str, times, signed, mul as mulₛ, identity, Value, nought, plus, minus, turn, float, expectation}
 use Rattle.signs.proofs.Values.{plus≢nought, minus≢nought, float_one, ◌×ᵥ◌, turn-turn, turn-left, turn-right, mul-nought, mul_assoc, mul-value, mul-plus}
 use Rattle.signs.proofs.Values.{add-none-left, add-none-right}

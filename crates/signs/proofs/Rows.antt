@@ -125,7 +125,7 @@ unfolding expectation still pulled X R x_block₁ r_block block_of₁ block_of x
 say-product = (refl, refl)
 
 abbrev product : List BlockOp → Value → Type 0
-product xs v = nz (product_of (get (run_by effect xs vacuum)) pair) ≡ float v
+product xs v = nz (product_of (get (run_by effect xs vacuum)) pair).value ≡ float v
 
 pub products : product rotated plus × product crossed minus
 unfolding Fits R X

@@ -23,7 +23,7 @@ use Rattle.state.specs.Operation.{decode_of, effect, applied}
 use Rattle.std.proofs.Common.{Some}
 use Rattle.state.proofs.Questions.{asked}
 use Rattle.queries.specs.Products.{z_of, restricted, product_of}
-use Rattle.queries.proofs.One.{pfaffian-two}
+use Rattle.queries.proofs.One.{entry_alone, alone-value, pfaffian-two}
 use Rattle.signs.specs.Paulis.{float, expectation}
 use Rattle.signs.specs.Majoranas.{gamma, paired, zs, DistinctModes}
 use Rattle.signs.specs.Circuits.{BlockOp, operation, pulled, Within}
@@ -45,11 +45,13 @@ pub right-z : (n : ℕ) (xs : List BlockOp) (t : State) → Right n xs t → (k 
     → nz (z_of (get t) k) ≡ float (expectation n (pulled xs (zs (k ∷ []))))
 unfolding product_of
 right-z n xs t right k l =
-    sym (nz-nz (z_of (get t) k)) ∙ ap nz (sym (pfaffian-two (restricted (get t) (k ∷ [])) (mul-fits binary64 _ _) ∙ ap (λ i. nz (get t i (2 * k + 1))) even))
-    ∙ right.product (k ∷ []) alone
+    sym (nz-nz (z_of (get t) k)) ∙ ap nz (sym (ap (λ x. x.value) two ∙ alone-value (z_of (get t) k))) ∙ right.product (k ∷ []) alone
   where
     even : 2 * k + 0 ≡ 2 * k
     even = omega arith
+
+    two : product_of (get t) (k ∷ []) ≡ entry_alone (z_of (get t) k)
+    two = pfaffian-two (restricted (get t) (k ∷ [])) (mul-fits binary64 _ _) ∙ ap (λ i. entry_alone (get t i (2 * k + 1))) even
 
     below : (i : ℕ) → i < 1 → get_or (k ∷ []) i 0 < n
     below zero h = l

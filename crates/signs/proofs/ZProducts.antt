@@ -12,7 +12,8 @@ use Rattle.laws.specs.Zeros.{+0, +1, nz}
 use Rattle.laws.specs.Matrix.{Mat}
 use Rattle.laws.specs.Phase.{i2}
 use Rattle.local.specs.State.{State, get}
-use Rattle.pfaffian.specs.Pfaffian.{pf, pfaffian_of}
+use Rattle.pfaffian.proofs.Number.{pf, pfaffian_number}
+use Rattle.queries.proofs.Rows.{product-number}
 use Rattle.queries.specs.Products.{index_of, restricted, product_of}
 use Rattle.signs.specs.Paulis.{Str, times, signed, mul, identity, plus, float, expectation}
 use Rattle.signs.specs.Majoranas.{gamma, zs, DistinctModes}
@@ -72,10 +73,11 @@ module _ (n : ℕ) (xs : List BlockOp) (within : Within n xs) (js : List ℕ) (m
       two : (p : ℕ) → suc (suc (2 * p)) ≡ 2 * suc p
       two p = omega arith
 
-  pub z-product : (t : State) → Holds n t (λ a. pulled xs (gamma a)) → nz (product_of (get t) js) ≡ float (expectation n (pulled xs (zs js)))
-  unfolding product_of pfaffian_of operator
+  pub z-product : (t : State) → Holds n t (λ a. pulled xs (gamma a)) → nz (product_of (get t) js).value ≡ float (expectation n (pulled xs (zs js)))
+  unfolding pfaffian_number operator
   z-product t holds =
-      ap (λ b. nz (cond b +0 (pf a (2 * L / 2) 0 (2 * L) +1))) (ne_eqb (2 * L % 2) 1 (λ e. omega arith))
+      ap nz (product-number (get t) js)
+      ∙ ap (λ b. nz (cond b +0 (pf a (2 * L / 2) 0 (2 * L) +1))) (ne_eqb (2 * L % 2) 1 (λ e. omega arith))
       ∙ ap (λ p. nz (pf a p 0 (2 * L) +1)) half
       ∙ pf-worth n L 0 (2 * L) (omega (arith, double L)) a operator +1 plus matching refl
       ∙ ap (λ s. float (expectation n s))

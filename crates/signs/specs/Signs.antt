@@ -32,7 +32,7 @@ pub record Right (n : ℕ) (xs : List BlockOp) (t : State) : Type 0 where
   -- every entry of the covariance: -i times two Majorana operators
   pub covariance : (r c : ℕ) → r < 2 * n → c < 2 * n → nz (get t r c) ≡ float (expectation n (pulled xs (paired n (gamma r) (gamma c))))
   -- the Z product of any different modes, which is what a product query reads: of one mode, its Z
-  pub product : (js : List ℕ) → DistinctModes n js → nz (product_of (get t) js) ≡ float (expectation n (pulled xs (zs js)))
+  pub product : (js : List ℕ) → DistinctModes n js → nz (product_of (get t) js).value ≡ float (expectation n (pulled xs (zs js)))
 
 -- THE STATEMENT: for every number of modes and every circuit on them
 abbrev pub AlwaysRight : Engine → Type 0

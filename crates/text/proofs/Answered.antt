@@ -39,7 +39,7 @@ passes t h c e few =
     )
 
 pub z-answered : (t : List ℕ) (h : Header) (c : Content) (q : ℕ) → parse t ≡ accepted h c → h.n ≤ printed_qubits → q < h.n
-    → (expectation_z_product_of h.n (state_of h c) (reported_of h c.gates).modes (q ∷ []) z_work).number ≡ 0
+    → (expectation_z_product_of h.n (state_of h c) (reported_of h c.gates).modes (q ∷ []) z_work).told.number ≡ 0
 z-answered t h c q e few l =
     ap (λ (x : Told). x.number)
     (one-qubit h.n (state_of h c) (reported_of h c.gates).modes q (passes t h c e few) l z_work (omega arith))

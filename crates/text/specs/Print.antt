@@ -44,7 +44,7 @@ z_work = replicate 4 +0
 
 -- Z of qubit q: what the product over it alone answers of a state
 abbrev pub z_at : ℕ → List Float → List ℕ → ℕ → Float
-z_at n state modes q = (expectation_z_product_of n state modes (q ∷ []) z_work).value
+z_at n state modes q = (expectation_z_product_of n state modes (q ∷ []) z_work).told.value
 
 -- ---- the text
 

@@ -10,7 +10,7 @@ use crate::words::{MAX_TEXT, Text};
 use detect::Report;
 use gaussian::run;
 use laws::OP_PLACES;
-use queries::expectation_z_product;
+use queries::{Answered, expectation_z_product};
 use tape::{Contents, check_tape};
 use work::{RECORD_FLOATS, RECORD_MARKS};
 
@@ -47,7 +47,8 @@ fn z_of(n: usize, state: &[f64], modes: &[u16], q: usize) -> f64
     ensures { result ≡ z_at n state.now modes.now q }
 {
     let mut work = [0.0; Z_WORK];
-    expectation_z_product(n, state, modes, &[q], &mut work).unwrap_or(0.0)
+    let answer = expectation_z_product(n, state, modes, &[q], &mut work);
+    Answered::from(answer).told.value
 }
 
 // The q lines of a report, from the state.

@@ -1,11 +1,12 @@
 -- `queries::basis::probability` meets its contract, by its questions. Assumes nothing.
-use Rattle.std.proofs.Common.{sym, ◌∙◌}
+use Rattle.std.proofs.Common.{◌≡◌, ℕ, List, true, ap, ◌∙◌}
 use Rattle.std.proofs.lemmas.Result.{err_from_is_err_and}
+use lib.Ieee.{Float}
+use Rattle.state.specs.Questions.{state_ok}
 use Rattle.state.specs.Answers.{told, refusal}
+use Rattle.queries.specs.Answers.{Answered, answered}
 use Rattle.queries.specs.Basis.{basis_mark}
 use Rattle.queries.specs.Calls.{covariance_of, marked_answer, marked_work, probability_of, probability_work}
-use Rattle.queries.proofs.Marking.{marked-none, marked-front}
-use Rattle.queries.proofs.Leaving.{answer-alike, work-alike}
 use Rattle.queries.proofs.basis.probability.Goals as goal
 
 pub returns-in_err-checked : goal.returns-in_err-checked
@@ -15,22 +16,31 @@ returns-in_err-checked c =
     let e = c.in_err-checked.ensures in
     record { answer = rw (p.1, p.2, e.0, e.1); work = rw e.1 }
 
-pub note_basis-requires : goal.note_basis-requires
-note_basis-requires c = marked-none _ _ _ c.in_ok-checked.checked.few
+-- 16 has passed, of a value that is the call's: what the marginal of all qubits tells and leaves is what the definition does
+module _ (n n' : ℕ) (s s' : List Float) (modes modes' : List ℕ) (low high : ℕ) (w : List Float)
+    (ok : state_ok n s modes ≡ true) (e : n' ≡ n) (f : s' ≡ s) (g : modes' ≡ modes) where
+  tells : (a : Answered) → a ≡ marked_answer (covariance_of n' s') n' (basis_mark n' modes' low high) w → a.told ≡ probability_of n s modes low high w
+  unfolding probability_of
+  tells a h = rw ok (ap (λ a. a.told) h ∙ (λ t. (marked_answer (covariance_of (e t) (f t)) (e t) (basis_mark (e t) (g t) low high) w).told))
+
+  leaves : (v : List Float) → v ≡ marked_work n' (basis_mark n' modes' low high) w → v ≡ probability_work n s modes low high w
+  unfolding probability_work
+  leaves v h = rw ok (h ∙ (λ t. marked_work (e t) (basis_mark (e t) (g t) low high) w))
+
+pub returns-in_err-basis_number : goal.returns-in_err-basis_number
+unfolding told answered
+returns-in_err-basis_number c =
+    let p = err_from_is_err_and c.from_residual-in_err-basis_number.result c.from_residual-in_err-basis_number.ensures.1 in
+    let e = c.in_ok-checked.ensures in
+    let r = c.in_err-basis_number.ensures in
+    record {
+      answer = rw (p.1, p.2) (tells _ _ _ _ _ _ _ _ _ e.0 e.1 e.2 e.3 _ r.answer);
+      work = leaves _ _ _ _ _ _ _ _ _ e.0 e.1 e.2 e.3 _ r.work;
+    }
 
 pub returns : goal.returns
-unfolding probability_of probability_work
+unfolding told answered
 returns c =
-    let a = c.args in
-    let checked = c.in_ok-checked.checked in
     let e = c.in_ok-checked.ensures in
-    let n = checked.n in
-    let marked = marked-front _ _ n a.n _ _ (sym e.1) c.note_basis.ensures in
-    let r = c.marked_probability.ensures in
-    let f = basis_mark n checked.modes.now a.low a.high in
-    let w = a.work.now in
-    let alike = answer-alike n _ f marked.each (covariance_of n checked.state.now) w in
-    record {
-      answer = rw e.0 (r.answer ∙ alike ∙ (λ t. marked_answer (covariance_of (e.1 t) (e.2 t)) (e.1 t) (basis_mark (e.1 t) (e.3 t) a.low a.high) w));
-      work = rw e.0 (r.work ∙ work-alike n _ f marked.each w ∙ (λ t. marked_work (e.1 t) (basis_mark (e.1 t) (e.3 t) a.low a.high) w));
-    }
+    let r = c.in_ok-basis_number.ensures in
+    record { answer = tells _ _ _ _ _ _ _ _ _ e.0 e.1 e.2 e.3 _ r.answer; work = leaves _ _ _ _ _ _ _ _ _ e.0 e.1 e.2 e.3 _ r.work }

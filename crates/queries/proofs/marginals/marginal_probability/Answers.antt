@@ -2,8 +2,9 @@
 use Rattle.std.proofs.Common.{◌≡◌, ℕ, ◌<◌, take, sym, ap, ◌∙◌, lt-ltb, le-ltb, le-leb, le_of_eq}
 use Rattle.std.proofs.lemmas.Result.{err_from_is_err_and}
 use borrow.Author.Tests.{lt-leb}
-use lib.Ieee.{of_bits}
-use Rattle.state.specs.Answers.{told, refusal}
+use Rattle.laws.proofs.Zeros.{zero_bits}
+use Rattle.state.specs.Answers.{refusal}
+use Rattle.queries.specs.Answers.{rowless, given, answered}
 use Rattle.queries.specs.Lists.{mode_listed, bit_listed, noted, asked}
 use Rattle.queries.specs.Calls.{covariance_of, stopped_of, marked_answer, marked_work, marginal_probability_of, marginal_probability_work}
 use Rattle.queries.specs.Inner.{mark_at}
@@ -12,14 +13,14 @@ use Rattle.queries.proofs.Leaving.{answer-alike, work-alike}
 use Rattle.queries.proofs.marginals.marginal_probability.Goals as goal
 
 pub returns-in_err-checked : goal.returns-in_err-checked
-unfolding told refusal marginal_probability_of marginal_probability_work
+unfolding answered refusal marginal_probability_of marginal_probability_work
 returns-in_err-checked c =
     let p = err_from_is_err_and c.from_residual.result c.from_residual.ensures.1 in
     let e = c.in_err-checked.ensures in
     record { answer = rw (p.1, p.2, e.0, e.1); work = rw e.1 }
 
 pub returns-in_err-check_bits : goal.returns-in_err-check_bits
-unfolding told refusal marginal_probability_of marginal_probability_work
+unfolding answered refusal marginal_probability_of marginal_probability_work
 returns-in_err-check_bits c =
     let p = err_from_is_err_and c.from_residual-in_err-check_bits.result c.from_residual-in_err-check_bits.ensures.1 in
     let e = c.in_ok-checked.ensures in
@@ -30,7 +31,7 @@ pub note_bits-requires-clause-none : goal.note_bits-requires-clause-none
 note_bits-requires-clause-none c = marked-none _ _ _ c.in_ok-checked.checked.few
 
 pub returns-in_err-note_bits : goal.returns-in_err-note_bits
-unfolding told refusal stopped_of marginal_probability_of marginal_probability_work
+unfolding answered refusal stopped_of marginal_probability_of marginal_probability_work
 returns-in_err-note_bits c =
     let p = err_from_is_err_and c.from_residual-in_err-note_bits.result c.from_residual-in_err-note_bits.ensures.1 in
     let e = c.in_ok-checked.ensures in
@@ -64,10 +65,13 @@ returns-in-Agreeing c =
     }
 
 pub returns-in-Contradictory : goal.returns-in-Contradictory
-unfolding told of_bits stopped_of marginal_probability_of marginal_probability_work
+unfolding answered stopped_of marginal_probability_of marginal_probability_work
 returns-in-Contradictory c =
     let e = c.in_ok-checked.ensures in
     let b = c.in_ok-check_bits.ensures in
     let says = rw c.in-Contradictory.is at c.in_ok-note_bits.ensures.answer in
     let stop = rw (e.1, e.3) at says in
-    record { answer = rw (e.0, b, lt-ltb _ _ stop.0, lt-leb _ _ stop.1); work = rw (e.0, b, lt-ltb _ _ stop.0) }
+    record {
+      answer = rw (e.0, b, lt-ltb _ _ stop.0, lt-leb _ _ stop.1) (ap given (c.rowless.ensures ∙ ap rowless zero_bits));
+      work = rw (e.0, b, lt-ltb _ _ stop.0);
+    }

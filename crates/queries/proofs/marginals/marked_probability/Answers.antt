@@ -3,7 +3,8 @@ use Rattle.std.proofs.Common.{rules, refl, ◌≡◌, ◌*◌, length, get_or, N
 use lib.Ieee.{binary64, mul}
 use Rattle.laws.specs.Matrix.{matrix}
 use Rattle.state.proofs.Questions.{square-few}
-use Rattle.state.specs.Answers.{accepted, told, refusal}
+use Rattle.state.specs.Answers.{refusal}
+use Rattle.queries.specs.Answers.{taken_apart, given, answered}
 use Rattle.queries.specs.Lists.{noted_modes}
 use Rattle.queries.specs.Marginals.{sign_of, asked_matrix, at_least_zero_of, marked_of}
 use Rattle.queries.specs.Calls.{covariance_of, worked, worked_work}
@@ -16,7 +17,7 @@ pub overflow_mul-dim-2 : goal.overflow_mul-dim-2
 overflow_mul-dim-2 c = omega (arith, square-few c.len-dim.result (omega (arith, c.list_modes-list.ensures.fits, c.len-dim.ensures.value)))
 
 pub returns-then-work-dim : goal.returns-then-work-dim
-unfolding told refusal worked worked_work
+unfolding answered refusal worked worked_work
 returns-then-work-dim c =
     let k = c.list_modes-list in
     let count = c.len-dim.result in
@@ -45,7 +46,7 @@ ask-requires c =
     }
 
 pub returns : goal.returns
-unfolding told worked worked_work marked_of
+unfolding answered worked worked_work marked_of
 returns c =
     let k = c.list_modes-list in
     let count = c.len-dim.result in
@@ -60,13 +61,13 @@ returns c =
     let w = c.args.work.now in
     let room = c.if-work-dim.false in
     let fits = work-fits l count list long same w room in
-    let f = c.pfaffian_cleared-x.ensures in
+    let f = c.pfaffian_cleared-end.ensures in
     let is = c.ask.ensures.same.dim in
     let e : c.ask.new.m.entries.now ≡ matrix (2 * length list) (F list) w = rw long c.ask.ensures.now in
-    let left : _ ≡ c.pfaffian_cleared-x.new.m.entries.now = search rules in
+    let left : _ ≡ c.pfaffian_cleared-end.new.m.entries.now = search rules in
     let x = rw is at f.value ∙ value-left l count list long same F w _ room e in
     let s = c.sign.ensures ∙ ap (λ n. sign_of n mark) c.requires in
     record {
-      answer = rw fits (ap accepted (c.at_least_zero.ensures ∙ (λ t. at_least_zero_of (mul binary64 (s t) (x t)))));
+      answer = rw fits (ap given (c.marginal_number.ensures ∙ (λ t. taken_apart (λ x. at_least_zero_of (mul binary64 (s t) x)) (x t))));
       work = rw fits (left ∙ rw is at f.work.now ∙ work-left l count list long same F w _ room e);
     }

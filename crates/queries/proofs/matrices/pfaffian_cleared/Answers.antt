@@ -7,7 +7,7 @@ use Rattle.queries.proofs.matrices.pfaffian_cleared.Goals as goal
 
 pub returns-clause-work : goal.returns-clause-work
 returns-clause-work c =
-    let kept = c.pfaffian-x.ensures.kept in
+    let kept = c.pfaffian-end.ensures.kept in
     let clears = c.clear.ensures in record {
       same = same_then _ _ _ kept.same clears.same;
       now = rw kept.same.dim at clears.now ∙ filled_is c.args.m.now.dim +0 _ _ _ kept.kept;

@@ -18,7 +18,7 @@ loop-j-preserved c =
     let e = c.shift_pair.ensures in (
       same_then _ _ _ l.invariant.0 e.same,
       shift-more (λ j. half_spin_of (mark_at c.args.asked.now (get_or list j 0))) m.dim l.j m.entries.now
-          l.m.entries.now _ _ (omega (arith, c.requires.rows, c.loop-j-test.true)) m.room c.half_spin-s.ensures l.invariant.1
+          l.m.entries.now _ _ (omega (arith, c.requires.rows, c.loop-j-test.true)) m.room (rw c.from.ensures at c.half_spin-s.ensures) l.invariant.1
           (rw l.invariant.0.dim at e.now),
     )
 

@@ -1,14 +1,15 @@
 -- `queries::products::expectation_z_product` meets its contract, by its questions. Assumes nothing.
 use Rattle.std.proofs.Common.{sym, ap, ◌∙◌, lt-ltb, le-ltb, le_of_eq}
 use Rattle.std.proofs.lemmas.Result.{err_from_is_err_and}
-use Rattle.state.specs.Answers.{told, refusal}
+use Rattle.state.specs.Answers.{refusal}
+use Rattle.queries.specs.Answers.{answered}
 use Rattle.queries.specs.Lists.{odd_modes}
 use Rattle.queries.specs.Calls.{covariance_of, product_answer, product_work, expectation_z_product_of, expectation_z_product_work}
 use Rattle.queries.proofs.Marking.{marked-none, odd-left}
 use Rattle.queries.proofs.products.expectation_z_product.Goals as goal
 
 pub returns-in_err-checked : goal.returns-in_err-checked
-unfolding told refusal expectation_z_product_of expectation_z_product_work
+unfolding answered refusal expectation_z_product_of expectation_z_product_work
 returns-in_err-checked c =
     let p = err_from_is_err_and c.from_residual.result c.from_residual.ensures.1 in
     let e = c.in_err-checked.ensures in
@@ -18,7 +19,7 @@ pub mark_odd-requires : goal.mark_odd-requires
 mark_odd-requires c = marked-none _ _ _ c.in_ok-checked.checked.few
 
 pub returns-in_err-among : goal.returns-in_err-among
-unfolding told refusal expectation_z_product_of expectation_z_product_work
+unfolding answered refusal expectation_z_product_of expectation_z_product_work
 returns-in_err-among c =
     let p = err_from_is_err_and c.from_residual-in_err-among.result c.from_residual-in_err-among.ensures.1 in
     let e = c.in_ok-checked.ensures in

@@ -2,7 +2,8 @@
 use Rattle.std.proofs.Common.{rules, refl, ◌≡◌, ◌*◌, length, ℕ, Bool, false, get_or, ap, ◌∙◌, arith, le_refl, sym}
 use Rattle.laws.specs.Matrix.{matrix}
 use Rattle.state.proofs.Questions.{square-few}
-use Rattle.state.specs.Answers.{accepted, told, refusal}
+use Rattle.state.specs.Answers.{refusal}
+use Rattle.queries.specs.Answers.{taken_apart, given, answered}
 use Rattle.queries.specs.Lists.{passing}
 use Rattle.queries.specs.Products.{restricted, product_of}
 use Rattle.queries.specs.Calls.{covariance_of, worked, worked_work}
@@ -14,7 +15,7 @@ pub overflow_mul-dim-2 : goal.overflow_mul-dim-2
 overflow_mul-dim-2 c = omega (arith, square-few c.len-dim.result (omega (arith, c.list_modes-list.ensures.fits, c.len-dim.ensures.value)))
 
 pub returns-then-work-dim : goal.returns-then-work-dim
-unfolding told refusal worked worked_work
+unfolding answered refusal worked worked_work
 returns-then-work-dim c =
     let k = c.list_modes-list in
     let count = c.len-dim.result in
@@ -37,7 +38,7 @@ restrict-requires c =
     record { below = passing-below n n p list (le_refl _) same; rows = rw long refl }
 
 pub returns : goal.returns
-unfolding told worked worked_work product_of
+unfolding answered worked worked_work product_of
 returns c =
     let k = c.list_modes-list in
     let count = c.len-dim.result in
@@ -56,6 +57,6 @@ returns c =
     let e : c.restrict.new.m.entries.now ≡ matrix (2 * length list) (F list) w = rw long c.restrict.ensures.now in
     let left : _ ≡ c.pfaffian_cleared.new.m.entries.now = search rules in
     record {
-      answer = rw fits (ap accepted (rw is at p.value ∙ value-left l count list long same F w _ room e));
+      answer = rw fits (ap given (c.product_number.ensures ∙ ap (taken_apart (λ x. x)) (rw is at p.value ∙ value-left l count list long same F w _ room e)));
       work = rw fits (left ∙ rw is at p.work.now ∙ work-left l count list long same F w _ room e);
     }
