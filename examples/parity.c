@@ -14,7 +14,7 @@ int main(void) {
         0x51, 0x47, 0x02, 0,                                                /* X on qubit 0 */
         0x51, 0x47, 0x13, 0, 1,                                             /* ISwap on 0 and 1 */
     };
-    uint64_t place[1], report[JOZKERAL_REPORT_WORDS];
+    uint64_t place[1], row[1], report[JOZKERAL_REPORT_WORDS];
     double measures[JOZKERAL_MEASURES], z_work[JOZKERAL_QUERY_PLACES(1)], z[1];
     uint16_t tables[JOZKERAL_TABLE_PLACES];
     uint64_t refused = jozkeral_run(tape, sizeof tape, work, JOZKERAL_WORK_PLACES(G, N), marks, JOZKERAL_MARK_PLACES(G, N),
@@ -27,8 +27,8 @@ int main(void) {
     const size_t n = report[JOZKERAL_WORD_N];
     for (size_t q = 0; q < n; q++) { /* the parity of a qubit: the product of Z over the list of it alone */
         jozkeral_expectation_z_product(n, state, JOZKERAL_STATE_PLACES(N), tables + JOZKERAL_MODES_AT, JOZKERAL_MAX_QUBITS,
-                                       &q, 1, z_work, JOZKERAL_QUERY_PLACES(1), place, 1, z, 1);
-        printf("q%zu %g\n", q, z[0]);
+                                       &q, 1, z_work, JOZKERAL_QUERY_PLACES(1), place, 1, z, 1, row, 1);
+        printf("q%zu %g%s\n", q, z[0], row[0] ? " found" : ""); /* a zero with a row was found and not worked out */
     }
     return 0;
 }

@@ -21,7 +21,7 @@
  * does not need it neither reads nor writes.
  *
  * ANSWERS. A call returns 0, or the number of the first question (below) whose answer is no. It returns JOZKERAL_NO_ROOM if a
- * slice for the answer itself (place, answer, report, measures, tables, found) is too short: then it has read and written
+ * slice for the answer itself (place, answer, row, report, measures, tables, found) is too short: then it has read and written
  * nothing at all. There is no other failure: any bytes of any length are answered, and no call loops for ever, traps or
  * reads outside its slices.
  *
@@ -187,6 +187,13 @@ uint64_t jozkeral_run(const uint8_t *tape, size_t tape_len, double *work, size_t
  * work: what was there does not matter. Once 20 has passed, the places that it asks for are left zero, whatever the answer;
  *     where the answer is given before 20, work is untouched.
  * place (1): the place of the refusal, or 0. answer (1): the number asked for, 0.0 in a refusal.
+ * row (1): k + 1 if the number is a zero that was found in row k, else 0. The number comes of the matrix of the modes that are left,
+ *     which is eliminated two rows at a time: the rows 0, 2, 4, ... are searched in turn for an entry to divide by. A search that
+ *     meets only zeros (NaNs after the first aside) stops with its row, of the matrix as it is swapped by then, and the number is
+ *     0.0. A row is no wire; of one qubit it is row 0. row[0] is 0 where there was no stop: the number was worked out, or there
+ *     was none to work out (a refusal, a contradiction, an empty list). Neither is a word on the true value: the entries of a row
+ *     may have been rounded before, even to zero; and a zero is worked out where the product of the entries divided by is too
+ *     small for a float, or where a marginal with the sign of its ones comes to less than zero or to a NaN.
  */
 
 /* Applies the operation in op to the state: questions 16 and 17, whose place is 0. An interaction does nothing. */
@@ -203,7 +210,7 @@ uint64_t jozkeral_apply(size_t n, double *state, size_t state_len, const uint16_
  */
 uint64_t jozkeral_expectation_z_product(size_t n, const double *state, size_t state_len, const uint16_t *modes, size_t modes_len,
                                         const size_t *qubits, size_t qubits_len, double *work, size_t work_len, uint64_t *place,
-                                        size_t place_len, double *answer, size_t answer_len);
+                                        size_t place_len, double *answer, size_t answer_len, uint64_t *row, size_t row_len);
 
 /*
  * The probability that each listed qubit reads its bit: questions 16, 18, 19 and 20. A qubit listed again with the same bit
@@ -211,11 +218,12 @@ uint64_t jozkeral_expectation_z_product(size_t n, const double *state, size_t st
  */
 uint64_t jozkeral_marginal_probability(size_t n, const double *state, size_t state_len, const uint16_t *modes, size_t modes_len,
                                        const size_t *qubits, size_t qubits_len, const uint8_t *bits, size_t bits_len, double *work,
-                                       size_t work_len, uint64_t *place, size_t place_len, double *answer, size_t answer_len);
+                                       size_t work_len, uint64_t *place, size_t place_len, double *answer, size_t answer_len,
+                                       uint64_t *row, size_t row_len);
 
 /*
  * The probability of a basis index: qubit q reads bit q of low, from 64 on bit q - 64 of high; bits from n on are ignored.
- * Questions 16 and 20, whose place is 0.
+ * Questions 16 and 20, whose place is 0. It tells no row; the marginal of all qubits has the same number and tells it.
  */
 uint64_t jozkeral_probability(size_t n, const double *state, size_t state_len, const uint16_t *modes, size_t modes_len, uint64_t low,
                               uint64_t high, double *work, size_t work_len, double *answer, size_t answer_len);
@@ -236,7 +244,7 @@ uint64_t jozkeral_sample(size_t n, const double *state, size_t state_len, const 
     enum { N = 2, G = 2 };
     double work[JOZKERAL_WORK_PLACES(G, N)], ops[JOZKERAL_OPS_PLACES(G, N)], state[JOZKERAL_STATE_PLACES(N)];
     uint32_t marks[JOZKERAL_MARK_PLACES(G, N)];
-    uint64_t place[1], report[JOZKERAL_REPORT_WORDS];
+    uint64_t place[1], row[1], report[JOZKERAL_REPORT_WORDS];
     double measures[JOZKERAL_MEASURES], z_work[JOZKERAL_QUERY_PLACES(1)], z[1];
     uint16_t tables[JOZKERAL_TABLE_PLACES];
     uint64_t no = jozkeral_run(tape, sizeof tape, work, JOZKERAL_WORK_PLACES(G, N), marks, JOZKERAL_MARK_PLACES(G, N),
@@ -246,8 +254,8 @@ uint64_t jozkeral_sample(size_t n, const double *state, size_t state_len, const 
     printf("Z:");
     for (size_t q = 0; q < N; q++)
         if (jozkeral_expectation_z_product(N, state, JOZKERAL_STATE_PLACES(N), tables + JOZKERAL_MODES_AT, JOZKERAL_MAX_QUBITS,
-                                           &q, 1, z_work, JOZKERAL_QUERY_PLACES(1), place, 1, z, 1) == JOZKERAL_OK)
-            printf(" %g", z[0]);
+                                           &q, 1, z_work, JOZKERAL_QUERY_PLACES(1), place, 1, z, 1, row, 1) == JOZKERAL_OK)
+            printf(" %g%s", z[0], row[0] ? " found" : "");
     printf("\n");
 */
 

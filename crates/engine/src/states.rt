@@ -28,15 +28,16 @@ pub extern "C" fn jozkeral_expectation_z_product(
     work: &mut [f64],
     place: &mut [u64],
     answer: &mut [f64],
+    row: &mut [u64],
 ) -> u64
     ensures answer { Tells (expectation_z_product_of n state.now modes.now qubits.now work.old)
-        place.old answer.old result place.new answer.new }
-    ensures work { work.new ≡ cond (has_places (length place.old) (length answer.old))
+        place.old answer.old row.old result place.new answer.new row.new }
+    ensures work { work.new ≡ cond (has_places (length place.old) (length answer.old) (length row.old))
         (expectation_z_product_work n state.now modes.now qubits.now work.old) work.old }
 {
-    if has_places(place.len(), answer.len()) {
+    if has_places(place.len(), answer.len(), row.len()) {
         let a = queries::expectation_z_product(n, state, modes, qubits, work);
-        return tell(a, place, answer);
+        return tell(a, place, answer, row);
     }
     NO_ROOM
 }
@@ -52,16 +53,17 @@ pub extern "C" fn jozkeral_marginal_probability(
     work: &mut [f64],
     place: &mut [u64],
     answer: &mut [f64],
+    row: &mut [u64],
 ) -> u64
     ensures answer { Tells (marginal_probability_of n state.now modes.now qubits.now bits.now
-        work.old) place.old answer.old result place.new answer.new }
-    ensures work { work.new ≡ cond (has_places (length place.old) (length answer.old))
+        work.old) place.old answer.old row.old result place.new answer.new row.new }
+    ensures work { work.new ≡ cond (has_places (length place.old) (length answer.old) (length row.old))
         (marginal_probability_work n state.now modes.now qubits.now bits.now work.old)
         work.old }
 {
-    if has_places(place.len(), answer.len()) {
+    if has_places(place.len(), answer.len(), row.len()) {
         let a = queries::marginal_probability(n, state, modes, qubits, bits, work);
-        return tell(a, place, answer);
+        return tell(a, place, answer, row);
     }
     NO_ROOM
 }
