@@ -7,7 +7,7 @@ use crate::layout::{
     word, INDEX_WORDS, MAX_GATES, MAX_QUBITS, MAX_SHOTS, OP_PLACES,
 };
 use crate::library as c;
-pub use crate::library::Refusal;
+pub use crate::library::{Number, Refusal};
 
 #[cfg(test)]
 pub mod fake;
@@ -176,14 +176,14 @@ pub trait Engine {
     /// The state after all gates: questions 1 to 15.
     fn run(&self, tape: &[u8]) -> Result<Run, Refusal>;
     /// The expectation of a product of Z, of one qubit that qubit's parity.
-    fn expectation_z_product(&self, state: &State, qubits: &[usize]) -> Result<f64, Refusal>;
+    fn expectation_z_product(&self, state: &State, qubits: &[usize]) -> Result<Number, Refusal>;
     /// The probability that the qubits have these bits.
     fn marginal_probability(
         &self,
         state: &State,
         qubits: &[usize],
         bits: &[u8],
-    ) -> Result<f64, Refusal>;
+    ) -> Result<Number, Refusal>;
     /// The probability of a basis index; qubit q is its bit q.
     fn probability(&self, state: &State, index: u128) -> Result<f64, Refusal>;
     /// Shots as basis indices, from n draws each.
@@ -224,7 +224,7 @@ impl Engine for Library {
         Ok(Run { compiled: compiled(&report, &ops), state })
     }
 
-    fn expectation_z_product(&self, s: &State, qubits: &[usize]) -> Result<f64, Refusal> {
+    fn expectation_z_product(&self, s: &State, qubits: &[usize]) -> Result<Number, Refusal> {
         s.asked().expectation_z_product(qubits, &mut query_work(s.most_left(qubits)))
     }
 
@@ -233,7 +233,7 @@ impl Engine for Library {
         s: &State,
         qubits: &[usize],
         bits: &[u8],
-    ) -> Result<f64, Refusal> {
+    ) -> Result<Number, Refusal> {
         s.asked().marginal_probability(qubits, bits, &mut query_work(s.most_left(qubits)))
     }
 

@@ -1,10 +1,12 @@
 //! The job: a source is compiled and run, all parities are read off, what was asked besides is
 //! answered, and shots are taken.
 
-use crate::engine::{Compiled, Engine, Refusal, State};
+use crate::engine::{Compiled, Engine, Number, Refusal, State};
 use crate::layout::question;
 use crate::refusals::{self, Explained};
 use crate::source::Source;
+use crate::zero::Zero;
+use std::collections::BTreeMap;
 
 /// A question besides all parities.
 #[derive(Clone, Debug, PartialEq)]
@@ -45,7 +47,25 @@ impl Query {
         }
     }
 
-    fn ask(&self, engine: &dyn Engine, state: &State) -> Result<f64, Refusal> {
+    /// Where its answer comes from, if that is zero. Of a basis index nothing is told.
+    pub fn zero(&self, answer: Number) -> Option<Zero> {
+        match self {
+            Query::Index(_) => None,
+            Query::Marginal(_) if answer.value == 0.0 && self.contradicts_itself() => {
+                Some(Zero::Contradiction)
+            }
+            Query::Product(_) | Query::Marginal(_) => Zero::of(answer),
+        }
+    }
+
+    /// Whether it wants two bits of one qubit.
+    fn contradicts_itself(&self) -> bool {
+        let Query::Marginal(parts) = self else { return false };
+        let mut wanted = BTreeMap::new();
+        parts.iter().any(|(q, bit)| wanted.insert(q, bit).is_some_and(|before| before != bit))
+    }
+
+    fn ask(&self, engine: &dyn Engine, state: &State) -> Result<Number, Refusal> {
         match self {
             Query::Product(qubits) => engine.expectation_z_product(state, qubits),
             Query::Marginal(parts) => {
@@ -54,7 +74,8 @@ impl Query {
             }
             Query::Index(bits) => {
                 let bit = |(q, b): (usize, &u8)| u128::from(*b) << q;
-                engine.probability(state, bits.iter().enumerate().map(bit).sum())
+                let index = bits.iter().enumerate().map(bit).sum();
+                engine.probability(state, index).map(Number::from)
             }
         }
     }
@@ -73,9 +94,16 @@ pub struct Answers {
     /// The state after all gates, of which shots can be taken.
     pub state: State,
     /// Z of each qubit.
-    pub parities: Vec<f64>,
+    pub parities: Vec<Number>,
     /// The answer to each query.
-    pub queries: Vec<Result<f64, Refusal>>,
+    pub queries: Vec<Result<Number, Refusal>>,
+}
+
+impl Answers {
+    /// Where the parities that are zero come from.
+    pub fn zeros(&self) -> impl Iterator<Item = Zero> + '_ {
+        self.parities.iter().filter_map(|z| Zero::of(*z))
+    }
 }
 
 impl Outcome {
@@ -193,6 +221,20 @@ mod tests {
         let fault = run(&source("qubits 3"), &[], &fake).expect_err("no parities");
         let want = "the tool asked the engine wrongly (question 19), which is the tool's fault";
         assert_eq!(fault, want);
+    }
+
+    #[test]
+    fn where_a_zero_comes_from() {
+        let zero = |parts: &[(usize, u8)], number| Query::Marginal(parts.to_vec()).zero(number);
+        let (found, none) = (Number { value: 0.0, row: Some(2) }, Number::from(0.0));
+        assert_eq!(zero(&[(0, 0), (1, 0)], found), Some(Zero::Found(2)));
+        assert_eq!(zero(&[(0, 0), (1, 0), (0, 0)], none), Some(Zero::WorkedOut));
+        assert_eq!(zero(&[(0, 0), (1, 0), (0, 1)], none), Some(Zero::Contradiction));
+        assert_eq!(zero(&[(0, 0), (0, 1)], Number::from(0.5)), None);
+        assert_eq!(zero(&[(0, 0)], Number::from(0.5)), None);
+        assert_eq!(Query::Product(vec![3, 0]).zero(found), Some(Zero::Found(2)));
+        assert_eq!(Query::Product(vec![3, 0]).zero(none), Some(Zero::WorkedOut));
+        assert_eq!(Query::Index(vec![0, 1]).zero(none), None);
     }
 
     #[test]

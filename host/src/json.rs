@@ -1,10 +1,11 @@
 //! The outcome as JSON (RFC 8259): for programs, with every digit.
 
-use crate::engine::{Compiled, Operation, Ordering, Refusal, Report};
-use crate::job::{Answers, Outcome, Portion};
+use crate::engine::{self, Compiled, Operation, Ordering, Refusal, Report};
+use crate::job::{Answers, Outcome, Portion, Query};
 use crate::refusals::{is_fault, query_refused, shots_refused, Explained};
 use crate::report::{self, bits, refused_line, Context};
 use crate::tape::Record;
+use crate::zero::Zero;
 use std::{fmt, io};
 
 /// A JSON value.
@@ -244,14 +245,22 @@ fn interactions(compiled: &Compiled) -> Value {
 
 /// Parities and queries.
 fn replies(context: &Context, r: &Report, answers: &Answers) -> Vec<(&'static str, Value)> {
-    let parity = |(q, z): (usize, &f64)| {
-        Object(vec![("qubit", whole(q)), ("mode", whole(r.modes[q])), ("z", Number(*z))])
+    let parity = |(q, z): (usize, &engine::Number)| {
+        let mut members =
+            vec![("qubit", whole(q)), ("mode", whole(r.modes[q])), ("z", Number(z.value))];
+        members.extend(origin(*z, Zero::of(*z)));
+        Object(members)
     };
     let queries = context.queries.iter().zip(&answers.queries);
     let queries = queries.map(|(query, answer)| {
         let mut members = vec![("kind", text(query.kind())), ("asked", Text(query.text()))];
         match answer {
-            Ok(x) => members.push(("value", Number(*x))),
+            Ok(x) => {
+                members.push(("value", Number(x.value)));
+                if !matches!(query, Query::Index(_)) {
+                    members.extend(origin(*x, query.zero(*x)));
+                }
+            }
             Err(r) => {
                 let why = query_refused(query, *r, answers.parities.len());
                 members.extend(query_refusal(*r, why));
@@ -265,6 +274,11 @@ fn replies(context: &Context, r: &Report, answers: &Answers) -> Vec<(&'static st
     ]
 }
 
+/// The row of a number, and where it comes from if it is zero.
+fn origin(x: engine::Number, zero: Option<Zero>) -> [(&'static str, Value); 2] {
+    [("row", optional(x.row.map(whole))), ("zero", optional(zero.map(|zero| text(zero.word()))))]
+}
+
 fn query_refusal(r: Refusal, why: String) -> Vec<(&'static str, Value)> {
     vec![("refused", Whole(r.number)), ("place", Whole(r.place)), ("why", Text(why))]
 }
@@ -273,7 +287,7 @@ fn query_refusal(r: Refusal, why: String) -> Vec<(&'static str, Value)> {
 mod tests {
     use super::*;
     use crate::engine::fake::Fake;
-    use crate::job::{self, Query, Shots};
+    use crate::job::{self, Shots};
     use crate::source::Source;
 
     #[test]
@@ -319,7 +333,7 @@ mod tests {
         for part in [
             "{\n  \"error\": null,\n  \"warnings\": [],\n",
             "\"exact\": false,\n",
-            "\"z\": 0.30000000000000004}",
+            "\"z\": 0.30000000000000004, \"row\": null, \"zero\": null}",
             "\"refused\": 19, \"place\": 1, \"why\": \"qubit 5 is not below 2\"}",
             "\"order\": [0, 1]",
             "  ],\n  \"draws\": \"seed\",\n",
@@ -329,6 +343,29 @@ mod tests {
         }
         let none = told(LIST, &fake, &queries, &[]);
         assert!(none.ends_with("\"shots\": [],\n  \"shots_refused\": null\n}\n"), "{none}");
+    }
+
+    #[test]
+    fn zeros_say_where_they_come_from() {
+        let queries = [
+            Query::Product(vec![1, 0]),
+            Query::Product(vec![2, 3]),
+            Query::Product(vec![1]),
+            Query::Marginal(vec![(1, 0), (1, 1)]),
+            Query::Index(vec![0; 4]),
+        ];
+        let text = told(LIST, &Fake::accepting(&[0.0, 0.5, 1e-200, 1e-200]), &queries, &[]);
+        for part in [
+            "{\"qubit\": 0, \"mode\": 0, \"z\": 0.0, \"row\": 0, \"zero\": \"found\"},",
+            "{\"qubit\": 1, \"mode\": 1, \"z\": 0.5, \"row\": null, \"zero\": null},",
+            "\"asked\": \"1,0\", \"value\": 0.0, \"row\": 2, \"zero\": \"found\"},",
+            "\"asked\": \"2,3\", \"value\": 0.0, \"row\": null, \"zero\": \"worked out\"},",
+            "\"asked\": \"1\", \"value\": 0.5, \"row\": null, \"zero\": null},",
+            "\"asked\": \"1=0,1=1\", \"value\": 0.0, \"row\": null, \"zero\": \"contradiction\"},",
+            "\"asked\": \"0000\", \"value\": 0.0}\n",
+        ] {
+            assert!(text.contains(part), "{part}\n{text}");
+        }
     }
 
     #[test]

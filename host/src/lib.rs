@@ -6,7 +6,8 @@
 //!
 //! let list = list::read("qubits 2\nx 0\niswap 0 1\n", &[]).expect("a gate list");
 //! let run = Library.run(&list.tape()).expect("a free-fermion circuit");
-//! assert_eq!(Library.expectation_z_product(&run.state, &[1]), Ok(-1.0));
+//! let parity = Library.expectation_z_product(&run.state, &[1]).expect("a qubit");
+//! assert_eq!(parity.value, -1.0);
 //! ```
 
 pub mod draws;
@@ -27,3 +28,4 @@ pub mod svg;
 pub mod tape;
 mod text;
 pub mod wording;
+pub mod zero;

@@ -23,6 +23,21 @@ impl Refusal {
     }
 }
 
+/// A product or a marginal: its value, and the row in which its Pfaffian's search for a pivot ended at
+/// zero, if one did (the header says which row that is); the value is 0.0 then.
+#[derive(Clone, Copy, Debug, PartialEq)]
+pub struct Number {
+    pub value: f64,
+    pub row: Option<usize>,
+}
+
+impl From<f64> for Number {
+    /// A number without a row.
+    fn from(value: f64) -> Number {
+        Number { value, row: None }
+    }
+}
+
 /// The report of a tape, as the header has it.
 #[derive(Clone, Debug, PartialEq)]
 pub struct Report {
@@ -133,11 +148,11 @@ impl State<'_> {
         &self,
         qubits: &[usize],
         work: &mut [f64],
-    ) -> Result<f64, Refusal> {
-        let (mut place, mut answer) = ([u64::MAX], [f64::NAN]);
+    ) -> Result<Number, Refusal> {
+        let (mut place, mut answer, mut row) = ([u64::MAX], [f64::NAN], [u64::MAX]);
         let number = call!(jozkeral_expectation_z_product: n self.n, r self.slice, r self.modes,
-            r qubits, w work, w place, w answer,);
-        told(number, place, answer[0])
+            r qubits, w work, w place, w answer, w row,);
+        told(number, place, numbered(answer, row))
     }
 
     pub fn marginal_probability(
@@ -145,11 +160,11 @@ impl State<'_> {
         qubits: &[usize],
         bits: &[u8],
         work: &mut [f64],
-    ) -> Result<f64, Refusal> {
-        let (mut place, mut answer) = ([u64::MAX], [f64::NAN]);
+    ) -> Result<Number, Refusal> {
+        let (mut place, mut answer, mut row) = ([u64::MAX], [f64::NAN], [u64::MAX]);
         let number = call!(jozkeral_marginal_probability: n self.n, r self.slice, r self.modes,
-            r qubits, r bits, w work, w place, w answer,);
-        told(number, place, answer[0])
+            r qubits, r bits, w work, w place, w answer, w row,);
+        told(number, place, numbered(answer, row))
     }
 
     pub fn probability(&self, low: u64, high: u64, work: &mut [f64]) -> Result<f64, Refusal> {
@@ -182,6 +197,11 @@ fn told<T>(number: u64, [place]: [u64; 1], value: T) -> Result<T, Refusal> {
     }
 }
 
+/// A number with its row, of which the library tells one more, and 0 where there is none.
+fn numbered([value]: [f64; 1], [row]: [u64; 1]) -> Number {
+    Number { value, row: row.checked_sub(1).map(|k| k as usize) }
+}
+
 /// The symbols as the header declares them; `L` is the length of the slice before it.
 #[rustfmt::skip]
 mod symbols {
@@ -205,11 +225,12 @@ mod symbols {
         ) -> u64;
         pub fn jozkeral_expectation_z_product(
             n: usize, state: R<f64>, _: L, modes: R<u16>, _: L, qubits: R<usize>, _: L,
-            work: W<f64>, _: L, place: W<u64>, _: L, answer: W<f64>, _: L,
+            work: W<f64>, _: L, place: W<u64>, _: L, answer: W<f64>, _: L, row: W<u64>, _: L,
         ) -> u64;
         pub fn jozkeral_marginal_probability(
             n: usize, state: R<f64>, _: L, modes: R<u16>, _: L, qubits: R<usize>, _: L,
             bits: R<u8>, _: L, work: W<f64>, _: L, place: W<u64>, _: L, answer: W<f64>, _: L,
+            row: W<u64>, _: L,
         ) -> u64;
         pub fn jozkeral_probability(
             n: usize, state: R<f64>, _: L, modes: R<u16>, _: L, low: u64, high: u64,

@@ -52,6 +52,13 @@ All other numbers are rounded; of these a 1, -1 or 0 without digits after the
 point is a float with that value. A given matrix that is not unitary within
 1e-9 is warned of, and run.
 
+A parity, product or marginal that is zero says where it comes from: `found`,
+with the row in which the calculation met nothing to divide by (two rows belong
+to a listed qubit, in the order of the modes, but rows are exchanged on the
+way, so that a row names no qubit); `worked out`, where the arithmetic came to
+0.0; or that the list of a marginal contradicts itself. What comes before
+either may have been rounded.
+
 Exit status: 0 answered; 1 the engine refused the circuit or a question about
 it; 2 the command line, the list or a file is at fault, or what was to be
 printed could not be (without a word if a pipe's reader has left).
@@ -68,8 +75,11 @@ not finite is null.
              (null with bad blocks)
   parities, queries, shots
              the answers. A query has a value, or the number of its refusal
-             with place and reason. Shots come as they are made; if a draw is
-             refused they end there, and shots_refused is not null
+             with place and reason. A parity, a product and a marginal have
+             zero, which is `found`, `worked out` or `contradiction`, and null
+             if the number is not 0, and row, which is null unless it was
+             found. Shots come as they are made; if a draw is refused they end
+             there, and shots_refused is not null
 
 Examples:
   jozkeral examples/chain60.txt

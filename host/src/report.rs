@@ -5,6 +5,7 @@ use crate::job::{Answers, Outcome, Portion, Query};
 use crate::refusals::{query_refused, shots_refused, Explained};
 use crate::source::{Placed, Source};
 use crate::wording::{are, count, wrapped};
+use crate::zero::Zero;
 use std::fmt::Write;
 use std::io;
 
@@ -34,7 +35,7 @@ pub fn words(context: &Context, outcome: &Outcome) -> String {
             out += &format!("{}\n\n", accepted(&compiled.report));
             out += &found(context.source, compiled);
             out += &parities(&compiled.report, answers, context.digits);
-            out += &trust(context.source, &compiled.report);
+            out += &trust(context, &compiled.report, answers);
             out += &replies(context, answers);
         }
         (Err(refused), compiled) => {
@@ -272,31 +273,45 @@ fn probability(x: f64, digits: usize) -> String {
     }
 }
 
-/// A table of Z by qubit.
+/// A table of Z by qubit; a zero says where it comes from.
 fn parities(r: &Report, answers: &Answers, digits: usize) -> String {
     let wide = digits + 4;
     let mut out = format!("\nqubit  mode  {:>wide$}\n", "Z");
     for (q, z) in answers.parities.iter().enumerate() {
-        let mut text = expectation(*z, digits);
+        let mut text = expectation(z.value, digits);
         // A number without digits after the point stands with its last digit where the others have their first.
-        if is_whole(*z) {
+        if is_whole(z.value) {
             text = format!("{text:>3}{:w$}", "", w = wide - 3);
         }
-        let line = format!("{q:5}  {:4}  {text:>wide$}", r.modes[q]);
+        let zero = Zero::of(*z).map_or(String::new(), |zero| zero.to_string());
+        let line = format!("{q:5}  {:4}  {text:>wide$}  {zero}", r.modes[q]);
         let _ = writeln!(out, "{}", line.trim_end());
     }
     out
 }
 
 /// What the numbers are worth.
-fn trust(source: &Source, r: &Report) -> String {
+fn trust(context: &Context, r: &Report, answers: &Answers) -> String {
     let mut out = String::from("\n");
-    let mut texts = caveats(source, r);
+    let mut texts = caveats(context.source, r);
     if !texts.contains(&REGISTER) {
         texts.push(ROUNDED);
     }
+    let told = context.queries.iter().zip(&answers.queries);
+    let told = told.filter_map(|(query, answer)| query.zero((*answer).ok()?));
+    let zeros: Vec<Zero> = answers.zeros().chain(told).collect();
+    texts.extend(about_zeros(context.source, &zeros));
     item(&mut out, "trust", &texts.join(" "));
     out
+}
+
+/// What the words beside these zeros mean.
+pub fn about_zeros(source: &Source, zeros: &[Zero]) -> Vec<&'static str> {
+    let found = zeros.iter().any(|zero| matches!(zero, Zero::Found(_)));
+    let entries = found && !source.is_register();
+    let worked_out = zeros.contains(&Zero::WorkedOut);
+    let texts = [(found, FOUND), (entries, ENTRIES), (worked_out, WORKED_OUT)];
+    texts.into_iter().filter_map(|(said, text)| said.then_some(text)).collect()
 }
 
 /// What must be said of all numbers, if anything must.
@@ -326,16 +341,31 @@ const NOT_UNITARY: &str =
     "A given matrix is not unitary: the numbers need be no expectations and no \
     probabilities.";
 
+/// Said where a zero was found;
+const FOUND: &str =
+    "A zero is found where the calculation meets a row with nothing to divide by. Two \
+    rows belong to each listed qubit, in the order of the modes, but rows are exchanged on \
+    the way: a row names no qubit.";
+/// and this, unless the entries are those of a register list, which are exact.
+const ENTRIES: &str = "The entries of that row may have been rounded before, even to zero.";
+/// Said where a zero was worked out.
+const WORKED_OUT: &str =
+    "A zero is worked out where the arithmetic comes to 0.0, or for a marginal \
+    to less or to no number: rounding can hide there too.";
+
 /// The answers to what was asked besides.
 fn replies(context: &Context, answers: &Answers) -> String {
     let n = answers.parities.len();
     let mut out = String::new();
     for (query, answer) in context.queries.iter().zip(&answers.queries) {
-        let text = match (answer, query) {
+        let mut text = match (answer, query) {
             (Err(refusal), _) => format!("refused: {}", query_refused(query, *refusal, n)),
-            (Ok(x), Query::Product(_)) => expectation(*x, context.digits),
-            (Ok(x), _) => probability(*x, context.digits),
+            (Ok(x), Query::Product(_)) => expectation(x.value, context.digits),
+            (Ok(x), _) => probability(x.value, context.digits),
         };
+        if let Some(zero) = answer.ok().and_then(|x| query.zero(x)) {
+            text += &format!(" ({zero})");
+        }
         let _ = writeln!(out, "{} {}: {text}", query.kind(), query.text());
     }
     if !out.is_empty() {
@@ -390,7 +420,7 @@ mod tests {
             "f: 3 qubits, 2 gates\n",
             "accepted: free-fermion within the tolerance (all 3 blocks are Gaussian)\n",
             "residual      at most 1e-15 (tolerance 1e-10)\n",
-            "    0     0   -1\n    1     1   +0.2500\n    2     2    0\n",
+            "    0     0   -1\n    1     1   +0.2500\n    2     2    0       found: row 0\n",
             "product 0,1: -0.2500\n",
             "product 0,3: refused: qubit 3 is not below 3\n",
             "marginal 0=1: 1.2500e-7\n",
@@ -399,6 +429,53 @@ mod tests {
         ] {
             assert!(text.contains(line), "{line}\n{text}");
         }
+    }
+
+    #[test]
+    fn zeros_say_where_they_come_from() {
+        let fake = Fake::accepting(&[1e-200, -0.0, 1e-200, 1.0, 0.5]);
+        let queries = [
+            Query::Product(vec![0, 1]),
+            Query::Product(vec![0, 2]),
+            Query::Marginal(vec![(0, 1), (3, 1)]),
+            Query::Marginal(vec![(3, 0), (4, 0)]),
+            Query::Marginal(vec![(4, 0), (3, 0), (4, 1)]),
+            Query::Index(vec![0; 5]),
+        ];
+        let text = told(&fake, &queries);
+        assert!(
+            text.contains("    0     0   +0.0000\n    1     1    0       found: row 0\n"),
+            "{text}"
+        );
+        let replies = "
+product 0,1: 0 (found: row 2)
+product 0,2: 0 (worked out)
+marginal 0=1,3=1: 0 (found: row 2)
+marginal 3=0,4=0: 0 (worked out)
+marginal 4=0,3=0,4=1: 0 (the list contradicts itself)
+index 00000: 0
+";
+        assert!(text.contains(replies), "{text}");
+    }
+
+    /// The words beside zeros are explained, and no others.
+    #[test]
+    fn what_is_meant_by_the_words_beside_zeros() {
+        let said = |list: &str, parities: &[f64], query: Query| {
+            let text = told_of(list, &Fake::accepting(parities), &[query]);
+            let text = text.split_whitespace().collect::<Vec<_>>().join(" ");
+            [FOUND, ENTRIES, WORKED_OUT].map(|meaning| text.contains(meaning))
+        };
+        let marginal = |q, bit| Query::Marginal(vec![(q, bit)]);
+        let none = [1.0, 1.0, 0.5];
+        assert_eq!(said(LIST, &none, marginal(0, 0)), [false, false, false]);
+        assert_eq!(said(LIST, &none, marginal(0, 1)), [true, true, false]);
+        assert_eq!(said(LIST, &none, marginal(2, 1)), [false, false, true]);
+        assert_eq!(said(LIST, &[1.0, 0.0, 0.5], marginal(2, 1)), [true, true, true]);
+        assert_eq!(said(LIST, &none, Query::Index(vec![1; 3])), [false, false, false]);
+        let contradiction = Query::Marginal(vec![(0, 0), (0, 1)]);
+        assert_eq!(said(LIST, &none, contradiction), [false, false, false]);
+        assert_eq!(said(REGISTER_LIST, &none, marginal(0, 1)), [true, false, false]);
     }
 
     #[test]

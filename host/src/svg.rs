@@ -1,12 +1,13 @@
 //! The outcome as a picture to print: an A4 sheet with the wires in their order and the blocks on
-//! them in time, and beside it a bar for the parity of each qubit. Black on white: patterns, not
-//! colours, tell exact values (of register lists), rounded and refused ones apart. Units are points;
-//! no text is below 9.
+//! them in time, and beside it a bar for the parity of each qubit; a zero is a stroke, and says where it
+//! comes from. Black on white: patterns, not colours, tell exact values (of register
+//! lists), rounded and refused ones apart. Units are points; no text is below 9.
 
-use crate::engine::{Operation, Report};
+use crate::engine::{Number, Operation, Report};
 use crate::job::Outcome;
 use crate::report::{self, accepted, blocks, expectation, Context};
 use crate::wording::{shown, wrapped};
+use crate::zero::Zero;
 use std::fmt::Write;
 
 const WIDTH: f64 = 595.0;
@@ -96,10 +97,12 @@ fn head(page: &mut Page, context: &Context, outcome: &Outcome) -> f64 {
     page.text(MARGIN, 48.0, 13.0, "start", &report::title(context.source));
     let mut lines = vec![];
     match (&outcome.answers, &outcome.compiled) {
-        (Ok(_), Some(compiled)) => {
+        (Ok(answers), Some(compiled)) => {
             lines.push(accepted(&compiled.report));
-            let caveats = report::caveats(context.source, &compiled.report);
-            lines.extend(caveats.into_iter().map(String::from));
+            let mut texts = report::caveats(context.source, &compiled.report);
+            let zeros: Vec<Zero> = answers.zeros().collect();
+            texts.extend(report::about_zeros(context.source, &zeros));
+            lines.extend(texts.into_iter().map(String::from));
         }
         (Err(refused), _) => {
             lines.push(format!("refused: number {}", refused.refusal.number));
@@ -272,7 +275,7 @@ fn draw_block(page: &mut Page, o: &Operation, x: f64, width: f64, (low, high): (
 }
 
 /// A bar for each qubit; `None`: the run was refused, and there are no values.
-fn draw_parities(page: &mut Page, c: &Column, parities: Option<&[f64]>, fill: &str) {
+fn draw_parities(page: &mut Page, c: &Column, parities: Option<&[Number]>, fill: &str) {
     let (left, right) = c.bars;
     let (middle, half) = ((left + right) / 2.0, (right - left) / 2.0);
     page.text(c.qubit, c.top - 8.0, SMALL, "end", "qubit");
@@ -290,8 +293,11 @@ fn draw_parities(page: &mut Page, c: &Column, parities: Option<&[f64]>, fill: &s
                 "refused".to_string()
             }
             Some(z) => {
-                draw_bar(page, (middle, y), (half, high), z[q], fill);
-                expectation(z[q], 4)
+                draw_bar(page, (middle, y), (half, high), z[q].value, fill);
+                if let Some(zero) = Zero::of(z[q]) {
+                    page.text(middle + 3.0, y + 3.2, SMALL, "start", &zero.to_string());
+                }
+                expectation(z[q].value, 4)
             }
         };
         page.text(c.value, y + 3.2, SMALL, "end", &value);
@@ -366,6 +372,19 @@ mod tests {
         assert!(text.contains("a&lt;b\u{FFFD}: 4 qubits"));
         assert_eq!(count(&drawn_of("qubits 4\nx 0\n", &fake)), [4, 1, 1]);
         assert_eq!(count(&drawn(&Fake::refusing(4, 12, 0), 4)), [1, 1, 5]);
+    }
+
+    #[test]
+    fn a_zero_says_where_it_comes_from() {
+        let said = |list: &str, parities: &[f64]| {
+            let text = drawn_of(list, &Fake::accepting(parities));
+            let about = |text: &str, part: &str| text.matches(part).count();
+            let meanings = [">A zero is found where", ">The entries of that row may"];
+            (about(&text, ">found: row 0</text>"), meanings.map(|part| about(&text, part)))
+        };
+        assert_eq!(said("qubits 3\nh 0\n", &[0.0, 0.5, -0.0]), (2, [1, 1]));
+        assert_eq!(said("qubits 3\nx 0\n", &[0.0, 0.5, -0.0]), (2, [1, 0]));
+        assert_eq!(said("qubits 3\nh 0\n", &[1.0, 0.5, 1e-300]), (0, [0, 0]));
     }
 
     #[test]

@@ -339,6 +339,8 @@ fn questions_about_a_register() {
         "--product=0,0",
         "--marginal=3=1,4=0",
         "--marginal=3=0",
+        "--marginal=3=0,2=0",
+        "--marginal=3=0,2=0,3=1",
         "--index=000101100010",
         "--index=000101100011",
         "--shots=3",
@@ -348,7 +350,9 @@ fn questions_about_a_register() {
 product 3,5,6: -1
 product 0,0: +1
 marginal 3=1,4=0: 1
-marginal 3=0: 0
+marginal 3=0: 0 (found: row 0)
+marginal 3=0,2=0: 0 (found: row 2)
+marginal 3=0,2=0,3=1: 0 (the list contradicts itself)
 index 000101100010: 1
 index 000101100011: 0
 
@@ -360,6 +364,39 @@ index 000101100011: 0
     let said = stdout(&run);
     assert!(said.ends_with(wanted), "{said}");
     assert_eq!(run.status.code(), Some(0));
+}
+
+/// The zeros of examples/zeros.out for programs and on the sheet.
+#[test]
+fn where_zeros_come_from() {
+    let svg = file("zeros.svg", "");
+    let list = ["examples/zeros.txt", "--json", "--svg", text(&svg)];
+    let asked = [
+        "--product=0,2",
+        "--product=0,1",
+        "--marginal=0=1,1=1",
+        "--marginal=2=1,3=1",
+        "--marginal=0=1,0=0",
+        "--index=1100",
+    ];
+    let said = stdout(&run(&[&list[..], &asked].concat()));
+    syntax::check(&said);
+    let found = |row: usize| format!("\"row\": {row}, \"zero\": \"found\"}}");
+    let no_row = |zero: &str| format!("\"row\": null, \"zero\": {zero}}}");
+    let number = |asked: &str, value: &str, rest: String| {
+        let part = format!("\"asked\": \"{asked}\", \"value\": {value}, {rest}");
+        assert!(said.contains(&part), "{part}\n{said}");
+    };
+    number("0,2", "0.0", found(0));
+    number("0,1", "-1.0", no_row("null"));
+    number("0=1,1=1", "0.0", found(2));
+    number("2=1,3=1", "0.0", no_row("\"worked out\""));
+    number("0=1,0=0", "0.0", no_row("\"contradiction\""));
+    assert!(said.contains("\"asked\": \"1100\", \"value\": 0.0}"), "{said}");
+    let parity = format!("{{\"qubit\": 3, \"mode\": 3, \"z\": 0.0, {}", found(0));
+    assert!(said.contains(&parity), "{said}");
+    let drawn = std::fs::read_to_string(&svg).expect("a picture");
+    assert_eq!(drawn.matches(">found: row 0</text>").count(), 4);
 }
 
 #[test]
@@ -474,6 +511,7 @@ fn json_is_well_formed() {
         &["examples/chain60.txt", "--product=3,4"][..],
         &["examples/register.txt", "--shots=130", "--index=000101100010", "--product=99"],
         &["examples/register.txt", "--shots=0"],
+        &["examples/register.txt", "--marginal=3=0,2=0", "--marginal=0=0,0=1"],
         &["examples/refused.txt"],
         &["examples/refused.txt", "--set", "drop=on"],
         &["no/such/list.txt"],

@@ -35,6 +35,15 @@ fn pair() {
     check(&words, "examples/pair.out", 0);
 }
 
+/// A zero that was found, one that was worked out, and one that is neither.
+#[test]
+fn zeros() {
+    let product = ["--product", "0,2"];
+    let marginals = ["--marginal=0=1,1=1", "--marginal=2=1,3=1", "--marginal=0=1,0=0"];
+    let words = [&["examples/zeros.txt"][..], &product, &marginals].concat();
+    check(&words, "examples/zeros.out", 0);
+}
+
 /// The worked example of the README is this list with this output.
 #[test]
 fn the_readme_shows_the_pair() {

@@ -1,6 +1,6 @@
 //! The library in Rust's hands, beside itself: calls that must agree.
 
-use jozkeral::engine::{Engine, Library, Operation, Refusal, State};
+use jozkeral::engine::{Engine, Library, Number, Operation, Refusal, State};
 use jozkeral::list;
 
 fn tape(text: &str) -> Vec<u8> {
@@ -35,25 +35,45 @@ fn queries_agree() {
     let state = Library.run(&tape(LIST)).expect("a run").state;
     let product = |list: &[usize]| Library.expectation_z_product(&state, list).expect("qubits");
     let read = |list: &[usize], bits: &[u8]| {
-        Library.marginal_probability(&state, list, bits).expect("qubits with bits")
+        Library.marginal_probability(&state, list, bits).expect("qubits with bits").value
     };
     for q in 0..5 {
         let z = read(&[q], &[0]) - read(&[q], &[1]);
-        assert!((product(&[q]) - z).abs() < 1e-12, "{z}");
+        assert!((product(&[q]).value - z).abs() < 1e-12, "{z}");
     }
     let even = read(&[1, 3], &[0, 0]) + read(&[1, 3], &[1, 1]);
     let odd = read(&[1, 3], &[0, 1]) + read(&[1, 3], &[1, 0]);
-    assert!((product(&[1, 3]) - (even - odd)).abs() < 1e-12, "{even} {odd}");
+    assert!((product(&[1, 3]).value - (even - odd)).abs() < 1e-12, "{even} {odd}");
     assert_eq!(product(&[3, 1]), product(&[1, 3]));
-    assert_eq!(product(&[]), 1.0);
+    assert_eq!(product(&[]), Number::from(1.0));
     let index = 0b10110;
     let (qubits, bits) = ([0, 1, 2, 3, 4], [0, 1, 1, 0, 1]);
-    assert_eq!(
-        Library.probability(&state, index),
-        Library.marginal_probability(&state, &qubits, &bits)
-    );
+    assert_eq!(Library.probability(&state, index), Ok(read(&qubits, &bits)));
     let all: f64 = (0..32).map(|x| Library.probability(&state, x).expect("an index")).sum();
     assert!((all - 1.0).abs() < 1e-12, "{all}");
+}
+
+/// A row is told only of a zero that was found, and counts in the matrix of the modes that are left.
+#[test]
+fn zeros_have_their_row() {
+    let state =
+        Library.run(&tape("qubits 3\nx 1\ncnot 1 2\nsx 1\ncnot 1 2\n")).expect("a run").state;
+    let read = |list: &[usize], bits: &[u8]| Library.marginal_probability(&state, list, bits);
+    let found = |row| Ok(Number { value: 0.0, row: Some(row) });
+    assert_eq!(read(&[0], &[0]), Ok(Number::from(1.0)));
+    assert_eq!(read(&[0], &[1]), found(0));
+    // Qubits 1 and 2 share one excitation: each alone is uncertain, and they never read the same.
+    for q in [1, 2] {
+        assert_eq!(Library.expectation_z_product(&state, &[q]), found(0));
+        assert_eq!(read(&[q], &[0]), Ok(Number::from(0.5)));
+    }
+    assert_eq!(Library.expectation_z_product(&state, &[1, 2]), Ok(Number::from(-1.0)));
+    assert_eq!(Library.expectation_z_product(&state, &[0, 1]), found(2));
+    assert_eq!(read(&[2, 1], &[1, 1]), found(2));
+    assert_eq!(read(&[2, 1, 0], &[1, 1, 0]), found(4));
+    assert_eq!(read(&[2, 1, 0], &[1, 1, 1]), found(0));
+    assert_eq!(read(&[2, 1, 2], &[1, 1, 0]), Ok(Number::from(0.0)));
+    assert_eq!(Library.probability(&state, 0b110), Ok(0.0));
 }
 
 /// There is work for every list, whatever is left of it.
@@ -69,12 +89,12 @@ fn lists_of_any_length() {
         let more = [&list[..], &[0, 1, 2, 3, 4], &[4, 3, 2, 1, 0]].concat();
         assert_eq!(Library.expectation_z_product(&state, &more), product);
         let (twice, bits) = (list.repeat(2), bits.repeat(2));
-        assert_eq!(Library.expectation_z_product(&state, &twice), Ok(1.0));
+        assert_eq!(Library.expectation_z_product(&state, &twice), Ok(Number::from(1.0)));
         assert_eq!(Library.marginal_probability(&state, &twice, &bits), marginal);
     }
     let none = State::vacuum(0);
-    assert_eq!(Library.expectation_z_product(&none, &[]), Ok(1.0));
-    assert_eq!(Library.marginal_probability(&none, &[], &[]), Ok(1.0));
+    assert_eq!(Library.expectation_z_product(&none, &[]), Ok(Number::from(1.0)));
+    assert_eq!(Library.marginal_probability(&none, &[], &[]), Ok(Number::from(1.0)));
 }
 
 #[test]
@@ -115,7 +135,8 @@ fn room_for_the_largest() {
     let flips: String = (0..1024).map(|k| format!("iswap {} {}\n", k % 127, k % 127 + 1)).collect();
     let state = Library.run(&tape(&layers(&flips))).expect("a run").state;
     let all: Vec<usize> = (0..128).collect();
-    assert_eq!(Library.expectation_z_product(&state, &all), Ok(1.0));
-    assert_eq!(Library.marginal_probability(&state, &all, &[0; 128]), Ok(1.0));
-    assert_eq!(Library.expectation_z_product(&state, &[127]), Ok(1.0));
+    let one = Ok(Number::from(1.0));
+    assert_eq!(Library.expectation_z_product(&state, &all), one);
+    assert_eq!(Library.marginal_probability(&state, &all, &[0; 128]), one);
+    assert_eq!(Library.expectation_z_product(&state, &[127]), one);
 }

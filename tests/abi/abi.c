@@ -353,148 +353,257 @@ static void test_queries(void) {
     const uint16_t *m = (const uint16_t *)at(&l.tables) + JOZKERAL_MODES_AT;
     const size_t ns = l.state.len, qs[4] = {0, 1, 2, 1}, bad[3] = {0, 9, 1};
     const uint8_t bits[4] = {0, 1, 1, 1}, wrong[4] = {0, 1, 0, 1}, twos[3] = {0, 2, 1}, contrary[4] = {0, 1, 1, 0};
-    struct slice w = lend(8, WORK + 3), p = lend(8, 2), a = lend(8, 2);
-    uint64_t *place = at(&p);
+    struct slice w = lend(8, WORK + 3), p = lend(8, 2), a = lend(8, 2), r = lend(8, 2);
+    uint64_t *place = at(&p), *row = at(&r);
     double *answer = at(&a), *work = at(&w);
-    CHECK(jozkeral_expectation_z_product(3, s, ns, m, MODES, qs, 4, work, w.len, place, 2, answer, 2) == 0 && answer[0] == -1.0);
-    CHECK(jozkeral_expectation_z_product(3, s, ns, m, MODES, NULL, 0, NULL, 0, place, 2, answer, 2) == 0 && answer[0] == 1.0);
-    CHECK(jozkeral_marginal_probability(3, s, ns, m, MODES, qs, 4, bits, 4, work, w.len, place, 2, answer, 2) == 0 && answer[0] == 1.0);
-    CHECK(jozkeral_marginal_probability(3, s, ns, m, MODES, qs, 4, wrong, 4, work, w.len, place, 2, answer, 2) == 0 && answer[0] == 0.0);
-    CHECK(jozkeral_marginal_probability(3, s, ns, m, MODES, qs, 4, contrary, 4, NULL, 0, place, 2, answer, 2) == 0 && answer[0] == 0.0);
+    CHECK(jozkeral_expectation_z_product(3, s, ns, m, MODES, qs, 4, work, w.len, place, 2, answer, 2, row, 2) == 0 && answer[0] == -1.0);
+    CHECK(jozkeral_expectation_z_product(3, s, ns, m, MODES, NULL, 0, NULL, 0, place, 2, answer, 2, row, 2) == 0 && answer[0] == 1.0);
+    CHECK(jozkeral_marginal_probability(3, s, ns, m, MODES, qs, 4, bits, 4, work, w.len, place, 2, answer, 2, row, 2) == 0 && answer[0] == 1.0);
+    CHECK(jozkeral_marginal_probability(3, s, ns, m, MODES, qs, 4, wrong, 4, work, w.len, place, 2, answer, 2, row, 2) == 0 && answer[0] == 0.0);
+    CHECK(jozkeral_marginal_probability(3, s, ns, m, MODES, qs, 4, contrary, 4, NULL, 0, place, 2, answer, 2, row, 2) == 0 && answer[0] == 0.0);
     CHECK(jozkeral_probability(3, s, ns, m, MODES, 6, 0, work, w.len, answer, 2) == 0 && answer[0] == 1.0);
     CHECK(jozkeral_probability(3, s, ns, m, MODES, 7, 0, work, w.len, answer, 2) == 0 && answer[0] == 0.0);
-    CHECK(cleared(&w, WORK) && untouched_from(&p, 1) && untouched_from(&a, 1));
+    CHECK(cleared(&w, WORK) && untouched_from(&p, 1) && untouched_from(&a, 1) && untouched_from(&r, 1));
     /* refusals */
-    CHECK(jozkeral_expectation_z_product(3, s, STATE - 1, m, MODES, qs, 1, work, w.len, place, 2, answer, 2) == JOZKERAL_BAD_STATE);
-    CHECK(jozkeral_expectation_z_product(3, s, ns, m, 2, qs, 1, work, w.len, place, 2, answer, 2) == JOZKERAL_BAD_STATE);
-    CHECK(jozkeral_marginal_probability(3, s, ns, m, MODES, qs, 3, bits, 2, work, w.len, place, 2, answer, 2) == JOZKERAL_BITS);
-    CHECK(jozkeral_marginal_probability(3, s, ns, m, MODES, qs, 3, twos, 3, work, w.len, place, 2, answer, 2) == JOZKERAL_BITS);
-    CHECK(jozkeral_marginal_probability(3, s, ns, m, MODES, bad, 3, bits, 3, work, w.len, place, 2, answer, 2) == JOZKERAL_LISTED && place[0] == 1);
+    CHECK(jozkeral_expectation_z_product(3, s, STATE - 1, m, MODES, qs, 1, work, w.len, place, 2, answer, 2, row, 2) == JOZKERAL_BAD_STATE);
+    CHECK(jozkeral_expectation_z_product(3, s, ns, m, 2, qs, 1, work, w.len, place, 2, answer, 2, row, 2) == JOZKERAL_BAD_STATE);
+    CHECK(jozkeral_marginal_probability(3, s, ns, m, MODES, qs, 3, bits, 2, work, w.len, place, 2, answer, 2, row, 2) == JOZKERAL_BITS);
+    CHECK(jozkeral_marginal_probability(3, s, ns, m, MODES, qs, 3, twos, 3, work, w.len, place, 2, answer, 2, row, 2) == JOZKERAL_BITS);
+    CHECK(jozkeral_marginal_probability(3, s, ns, m, MODES, bad, 3, bits, 3, work, w.len, place, 2, answer, 2, row, 2) == JOZKERAL_LISTED && place[0] == 1);
     CHECK(jozkeral_probability(3, s, ns, m, MODES, 6, 0, work, WORK - 1, answer, 2) == JOZKERAL_QUERY_WORK && answer[0] == 0.0);
     /* no room */
     place[0] = 3;
     answer[0] = 4.0;
+    row[0] = 5;
     work[0] = 1.0;
-    CHECK(jozkeral_expectation_z_product(3, s, ns, m, MODES, qs + 1, 2, work, w.len, NULL, 0, answer, 2) == JOZKERAL_NO_ROOM);
-    CHECK(jozkeral_expectation_z_product(3, s, ns, m, MODES, qs, 4, work, w.len, place, 2, NULL, 0) == JOZKERAL_NO_ROOM);
-    CHECK(jozkeral_marginal_probability(3, s, ns, m, MODES, qs, 4, bits, 4, work, w.len, place, 0, answer, 2) == JOZKERAL_NO_ROOM);
+    CHECK(jozkeral_expectation_z_product(3, s, ns, m, MODES, qs + 1, 2, work, w.len, NULL, 0, answer, 2, row, 2) == JOZKERAL_NO_ROOM);
+    CHECK(jozkeral_expectation_z_product(3, s, ns, m, MODES, qs, 4, work, w.len, place, 2, NULL, 0, row, 2) == JOZKERAL_NO_ROOM);
+    CHECK(jozkeral_marginal_probability(3, s, ns, m, MODES, qs, 4, bits, 4, work, w.len, place, 0, answer, 2, row, 2) == JOZKERAL_NO_ROOM);
+    CHECK(jozkeral_marginal_probability(3, s, ns, m, MODES, qs, 4, bits, 4, work, w.len, place, 2, answer, 2, NULL, 0) == JOZKERAL_NO_ROOM);
     CHECK(jozkeral_probability(3, s, ns, m, MODES, 6, 0, work, w.len, answer, 0) == JOZKERAL_NO_ROOM);
-    CHECK(place[0] == 3 && answer[0] == 4.0 && work[0] == 1.0 && margins(&w) && margins(&p) && margins(&a));
+    CHECK(place[0] == 3 && answer[0] == 4.0 && row[0] == 5 && work[0] == 1.0);
+    CHECK(margins(&w) && margins(&p) && margins(&a) && margins(&r));
     CHECK(margins(&l.state) && margins(&l.tables));
     free(w.room);
     free(p.room);
     free(a.room);
+    free(r.room);
     give_back(&l);
 }
 
-/* ---- products of Z on the same state: which question is asked first, how many places of work it asks for, what is left in each slice */
+/* ---- products of Z and marginals on the same state: which question is asked first, how many places of work it asks for, what is
+ * left in each slice, and the row where the number is a zero that was found */
 
-struct product {
+struct asked {
     int line;
     size_t n, places, count, qubits[4]; /* of the state, of work, of the list */
+    uint8_t bits[4];                    /* of a marginal */
     uint64_t number, place;
     double value;
+    uint64_t row;
     size_t zeros; /* places of work that are zero afterwards; the others are as they were lent */
 };
 
-static const struct product products[] = {
+static const struct asked products[] = {
     /* one qubit asks for four places */
-    {__LINE__, 3, 3, 1, {1}, JOZKERAL_QUERY_WORK, 0, 0.0, 0},
-    {__LINE__, 3, 4, 1, {1}, JOZKERAL_OK, 0, -1.0, 4},
-    {__LINE__, 3, 9, 1, {0}, JOZKERAL_OK, 0, 1.0, 4},
-    {__LINE__, 3, 4, 1, {2}, JOZKERAL_OK, 0, -1.0, 4},
-    {__LINE__, 3, 3, 3, {1, 1, 1}, JOZKERAL_QUERY_WORK, 0, 0.0, 0},
-    {__LINE__, 3, 4, 3, {1, 1, 1}, JOZKERAL_OK, 0, -1.0, 4},
-    {__LINE__, 3, 4, 3, {0, 2, 0}, JOZKERAL_OK, 0, -1.0, 4},
+    {__LINE__, 3, 3, 1, {1}, {0}, JOZKERAL_QUERY_WORK, 0, 0.0, 0, 0},
+    {__LINE__, 3, 4, 1, {1}, {0}, JOZKERAL_OK, 0, -1.0, 0, 4},
+    {__LINE__, 3, 9, 1, {0}, {0}, JOZKERAL_OK, 0, 1.0, 0, 4},
+    {__LINE__, 3, 4, 1, {2}, {0}, JOZKERAL_OK, 0, -1.0, 0, 4},
+    {__LINE__, 3, 3, 3, {1, 1, 1}, {0}, JOZKERAL_QUERY_WORK, 0, 0.0, 0, 0},
+    {__LINE__, 3, 4, 3, {1, 1, 1}, {0}, JOZKERAL_OK, 0, -1.0, 0, 4},
+    {__LINE__, 3, 4, 3, {0, 2, 0}, {0}, JOZKERAL_OK, 0, -1.0, 0, 4},
     /* two ask for 16, three for 36 */
-    {__LINE__, 3, 15, 2, {0, 2}, JOZKERAL_QUERY_WORK, 0, 0.0, 0},
-    {__LINE__, 3, 16, 2, {0, 2}, JOZKERAL_OK, 0, -1.0, 16},
-    {__LINE__, 3, 16, 2, {2, 0}, JOZKERAL_OK, 0, -1.0, 16},
-    {__LINE__, 3, 39, 2, {1, 2}, JOZKERAL_OK, 0, 1.0, 16},
-    {__LINE__, 3, 35, 3, {0, 1, 2}, JOZKERAL_QUERY_WORK, 0, 0.0, 0},
-    {__LINE__, 3, 36, 3, {0, 1, 2}, JOZKERAL_OK, 0, 1.0, 36},
+    {__LINE__, 3, 15, 2, {0, 2}, {0}, JOZKERAL_QUERY_WORK, 0, 0.0, 0, 0},
+    {__LINE__, 3, 16, 2, {0, 2}, {0}, JOZKERAL_OK, 0, -1.0, 0, 16},
+    {__LINE__, 3, 16, 2, {2, 0}, {0}, JOZKERAL_OK, 0, -1.0, 0, 16},
+    {__LINE__, 3, 39, 2, {1, 2}, {0}, JOZKERAL_OK, 0, 1.0, 0, 16},
+    {__LINE__, 3, 35, 3, {0, 1, 2}, {0}, JOZKERAL_QUERY_WORK, 0, 0.0, 0, 0},
+    {__LINE__, 3, 36, 3, {0, 1, 2}, {0}, JOZKERAL_OK, 0, 1.0, 0, 36},
     /* a pair that cancels asks for none, and so does the empty list */
-    {__LINE__, 3, 0, 2, {1, 1}, JOZKERAL_OK, 0, 1.0, 0},
-    {__LINE__, 3, 4, 2, {1, 1}, JOZKERAL_OK, 0, 1.0, 0},
-    {__LINE__, 3, 0, 4, {1, 2, 1, 2}, JOZKERAL_OK, 0, 1.0, 0},
-    {__LINE__, 3, 0, 0, {0}, JOZKERAL_OK, 0, 1.0, 0},
-    {__LINE__, 3, 4, 0, {0}, JOZKERAL_OK, 0, 1.0, 0},
+    {__LINE__, 3, 0, 2, {1, 1}, {0}, JOZKERAL_OK, 0, 1.0, 0, 0},
+    {__LINE__, 3, 4, 2, {1, 1}, {0}, JOZKERAL_OK, 0, 1.0, 0, 0},
+    {__LINE__, 3, 0, 4, {1, 2, 1, 2}, {0}, JOZKERAL_OK, 0, 1.0, 0, 0},
+    {__LINE__, 3, 0, 0, {0}, {0}, JOZKERAL_OK, 0, 1.0, 0, 0},
+    {__LINE__, 3, 4, 0, {0}, {0}, JOZKERAL_OK, 0, 1.0, 0, 0},
     /* 19 before 20, with the index in the list; what is no qubit does not cancel */
-    {__LINE__, 3, 0, 1, {3}, JOZKERAL_LISTED, 0, 0.0, 0},
-    {__LINE__, 3, 4, 1, {SIZE_MAX}, JOZKERAL_LISTED, 0, 0.0, 0},
-    {__LINE__, 3, 0, 2, {1, 3}, JOZKERAL_LISTED, 1, 0.0, 0},
-    {__LINE__, 3, 16, 2, {1, 3}, JOZKERAL_LISTED, 1, 0.0, 0},
-    {__LINE__, 3, 16, 4, {1, 1, 3, 3}, JOZKERAL_LISTED, 2, 0.0, 0},
-    {__LINE__, 3, 36, 3, {0, 9, 1}, JOZKERAL_LISTED, 1, 0.0, 0},
+    {__LINE__, 3, 0, 1, {3}, {0}, JOZKERAL_LISTED, 0, 0.0, 0, 0},
+    {__LINE__, 3, 4, 1, {SIZE_MAX}, {0}, JOZKERAL_LISTED, 0, 0.0, 0, 0},
+    {__LINE__, 3, 0, 2, {1, 3}, {0}, JOZKERAL_LISTED, 1, 0.0, 0, 0},
+    {__LINE__, 3, 16, 2, {1, 3}, {0}, JOZKERAL_LISTED, 1, 0.0, 0, 0},
+    {__LINE__, 3, 16, 4, {1, 1, 3, 3}, {0}, JOZKERAL_LISTED, 2, 0.0, 0, 0},
+    {__LINE__, 3, 36, 3, {0, 9, 1}, {0}, JOZKERAL_LISTED, 1, 0.0, 0, 0},
     /* 16 before 19 */
-    {__LINE__, 4, 0, 1, {9}, JOZKERAL_BAD_STATE, 0, 0.0, 0},
-    {__LINE__, 129, 4, 1, {0}, JOZKERAL_BAD_STATE, 0, 0.0, 0},
-    {__LINE__, 129, 0, 0, {0}, JOZKERAL_BAD_STATE, 0, 0.0, 0},
+    {__LINE__, 4, 0, 1, {9}, {0}, JOZKERAL_BAD_STATE, 0, 0.0, 0, 0},
+    {__LINE__, 129, 4, 1, {0}, {0}, JOZKERAL_BAD_STATE, 0, 0.0, 0, 0},
+    {__LINE__, 129, 0, 0, {0}, {0}, JOZKERAL_BAD_STATE, 0, 0.0, 0, 0},
+};
+
+static const struct asked marginals[] = {
+    /* the state's own bits, in any order; a qubit that is listed again counts once */
+    {__LINE__, 3, 4, 1, {0}, {0}, JOZKERAL_OK, 0, 1.0, 0, 4},
+    {__LINE__, 3, 16, 2, {2, 0}, {1, 0}, JOZKERAL_OK, 0, 1.0, 0, 16},
+    {__LINE__, 3, 36, 4, {0, 1, 2, 1}, {0, 1, 1, 1}, JOZKERAL_OK, 0, 1.0, 0, 36},
+    /* a wrong bit is found at the row of its mode among those that are listed, the first if there are two */
+    {__LINE__, 3, 4, 1, {0}, {1}, JOZKERAL_OK, 0, 0.0, 1, 4},
+    {__LINE__, 3, 9, 1, {2}, {0}, JOZKERAL_OK, 0, 0.0, 1, 4},
+    {__LINE__, 3, 16, 2, {0, 1}, {0, 0}, JOZKERAL_OK, 0, 0.0, 3, 16},
+    {__LINE__, 3, 16, 2, {1, 0}, {0, 0}, JOZKERAL_OK, 0, 0.0, 3, 16},
+    {__LINE__, 3, 16, 2, {0, 1}, {1, 1}, JOZKERAL_OK, 0, 0.0, 1, 16},
+    {__LINE__, 3, 16, 3, {1, 2, 1}, {1, 0, 1}, JOZKERAL_OK, 0, 0.0, 3, 16},
+    {__LINE__, 3, 36, 3, {0, 1, 2}, {0, 1, 0}, JOZKERAL_OK, 0, 0.0, 5, 36},
+    {__LINE__, 3, 39, 3, {0, 1, 2}, {0, 0, 0}, JOZKERAL_OK, 0, 0.0, 3, 36},
+    /* a contradiction has no row, whatever the list says before it, and neither has the empty list */
+    {__LINE__, 3, 0, 2, {0, 0}, {0, 1}, JOZKERAL_OK, 0, 0.0, 0, 0},
+    {__LINE__, 3, 16, 4, {0, 1, 0, 9}, {0, 0, 1, 0}, JOZKERAL_OK, 0, 0.0, 0, 0},
+    {__LINE__, 3, 4, 0, {0}, {0}, JOZKERAL_OK, 0, 1.0, 0, 0},
+    /* refusals have none: 20, 19 before it, 18 before that, 16 first; here the list would be found at row 2 */
+    {__LINE__, 3, 15, 2, {0, 1}, {0, 0}, JOZKERAL_QUERY_WORK, 0, 0.0, 0, 0},
+    {__LINE__, 3, 15, 3, {0, 1, 3}, {0, 0, 0}, JOZKERAL_LISTED, 2, 0.0, 0, 0},
+    {__LINE__, 3, 15, 3, {0, 1, 3}, {0, 2, 0}, JOZKERAL_BITS, 0, 0.0, 0, 0},
+    {__LINE__, 129, 15, 3, {0, 1, 3}, {0, 2, 0}, JOZKERAL_BAD_STATE, 0, 0.0, 0, 0},
 };
 
 static int same(double x, double y) { return !memcmp(&x, &y, sizeof x); }
 
-/* asks for a product with so much room for its place and its answer: as the row says, and where there is no room 99 and nothing written */
-static void check_product(const struct lent *l, const struct product *row, size_t place_room, size_t answer_room) {
+/* asks with so much room for place, answer and row: as the table says, and where there is no room 99 and nothing written */
+static void check_asked(const struct lent *l, const struct asked *t, int marginal, const size_t room[3]) {
     const uint16_t *m = (const uint16_t *)at(&l->tables) + JOZKERAL_MODES_AT;
-    struct slice w = lend(8, row->places), p = lend(8, place_room), a = lend(8, answer_room);
-    uint64_t number = jozkeral_expectation_z_product(row->n, at(&l->state), l->state.len, m, MODES, row->qubits, row->count, at(&w), w.len, at(&p),
-                                                     p.len, at(&a), a.len);
-    if (place_room == 0 || answer_room == 0) {
-        check(number == JOZKERAL_NO_ROOM, "a product without room", row->line);
-        check(untouched(&w) && untouched(&p) && untouched(&a), "a product without room leaves all slices", row->line);
+    struct slice w = lend(8, t->places), p = lend(8, room[0]), a = lend(8, room[1]), r = lend(8, room[2]);
+    uint64_t number =
+        marginal ? jozkeral_marginal_probability(t->n, at(&l->state), l->state.len, m, MODES, t->qubits, t->count, t->bits, t->count, at(&w), w.len,
+                                                 at(&p), p.len, at(&a), a.len, at(&r), r.len)
+                 : jozkeral_expectation_z_product(t->n, at(&l->state), l->state.len, m, MODES, t->qubits, t->count, at(&w), w.len, at(&p), p.len,
+                                                  at(&a), a.len, at(&r), r.len);
+    if (room[0] == 0 || room[1] == 0 || room[2] == 0) {
+        check(number == JOZKERAL_NO_ROOM, "a query without room", t->line);
+        check(untouched(&w) && untouched(&p) && untouched(&a) && untouched(&r), "a query without room leaves all slices", t->line);
     } else {
-        check(number == row->number, "the number of a product", row->line);
-        check(((uint64_t *)at(&p))[0] == row->place && untouched_from(&p, 1), "the place of a product", row->line);
-        check(same(((double *)at(&a))[0], row->value) && untouched_from(&a, 1), "the value of a product", row->line);
-        check(cleared(&w, row->zeros), "what a product leaves in work", row->line);
+        check(number == t->number, "the number of a query", t->line);
+        check(((uint64_t *)at(&p))[0] == t->place && untouched_from(&p, 1), "the place of a query", t->line);
+        check(same(((double *)at(&a))[0], t->value) && untouched_from(&a, 1), "the value of a query", t->line);
+        check(((uint64_t *)at(&r))[0] == t->row && untouched_from(&r, 1), "the row of a query", t->line);
+        check(cleared(&w, t->zeros), "what a query leaves in work", t->line);
     }
     free(w.room);
     free(p.room);
     free(a.room);
+    free(r.room);
 }
 
-static void test_products(void) {
+static void check_all(const struct asked *table, size_t count, int marginal) {
+    static const size_t rooms[][3] = {{1, 1, 1}, {3, 2, 4}, {0, 1, 1}, {1, 0, 1}, {1, 1, 0}, {0, 0, 0}};
     struct lent l = state_of_bits(), kept = state_of_bits();
-    for (size_t i = 0; i < sizeof products / sizeof *products; i++) {
-        check_product(&l, &products[i], 1, 1);
-        check_product(&l, &products[i], 3, 2);
-        check_product(&l, &products[i], 0, 1);
-        check_product(&l, &products[i], 1, 0);
-        check_product(&l, &products[i], 0, 0);
-    }
+    for (size_t i = 0; i < count; i++)
+        for (size_t j = 0; j < sizeof rooms / sizeof *rooms; j++) check_asked(&l, &table[i], marginal, rooms[j]);
     CHECK(!memcmp(l.state.room, kept.state.room, 2 * MARGIN + 8 * l.state.len));
     CHECK(!memcmp(l.tables.room, kept.tables.room, 2 * MARGIN + 2 * l.tables.len));
     give_back(&l);
     give_back(&kept);
 }
 
-/* the product over the first k qubits of a state of two whose modes are exchanged: Z of qubit 0 is z0 times the sign, of qubit 1 it is z1 */
-static double product_of(size_t k, double z0, double z1, double sign) {
-    const size_t qubits[2] = {0, 1};
-    const uint16_t modes[2] = {1, 0};
-    const double state[JOZKERAL_STATE_PLACES(2)] = {[1] = z1, [4] = -z1, [11] = z0, [14] = -z0, [16] = 1.0, [17] = 1.0, [18] = sign, [19] = 1.0};
-    double work[JOZKERAL_QUERY_PLACES(2)], answer[1] = {7.0};
-    uint64_t place[1];
-    CHECK(jozkeral_expectation_z_product(2, state, JOZKERAL_STATE_PLACES(2), modes, 2, qubits, k, work, JOZKERAL_QUERY_PLACES(k), place, 1, answer, 1) == 0);
-    return answer[0];
+static void test_asked(void) {
+    check_all(products, sizeof products / sizeof *products, 0);
+    check_all(marginals, sizeof marginals / sizeof *marginals, 1);
 }
 
-/* the product over one qubit is its entry with the signs, in every bit, but that -0.0 is told +0.0 */
+/* ---- the same on states of two qubits, given by their entries */
+
+struct number {
+    double value;
+    uint64_t row;
+};
+
+/* the product over the first k qubits */
+static struct number product_on(const double *state, const uint16_t *modes, size_t k) {
+    const size_t qubits[2] = {0, 1};
+    double work[JOZKERAL_QUERY_PLACES(2)], answer[1] = {7.0};
+    uint64_t place[1], row[1] = {7};
+    CHECK(jozkeral_expectation_z_product(2, state, JOZKERAL_STATE_PLACES(2), modes, 2, qubits, k, work, JOZKERAL_QUERY_PLACES(k), place, 1, answer, 1,
+                                         row, 1) == 0);
+    return (struct number){answer[0], row[0]};
+}
+
+/* the modes are exchanged: Z of qubit 0 is z0 times the sign, of qubit 1 it is z1 */
+static struct number product_of(size_t k, double z0, double z1, double sign) {
+    const uint16_t modes[2] = {1, 0};
+    const double state[JOZKERAL_STATE_PLACES(2)] = {[1] = z1, [4] = -z1, [11] = z0, [14] = -z0, [16] = 1.0, [17] = 1.0, [18] = sign, [19] = 1.0};
+    return product_on(state, modes, k);
+}
+
+static int is(struct number x, double value, uint64_t row) { return same(x.value, value) && x.row == row; }
+
+/* the product over one qubit is its entry with the signs, in every bit, but that -0.0 is told +0.0; a zero is found at row 0 */
 static void test_bits_of_one(void) {
     const double tiny = 0x1p-1074, huge = 1.0 / 0.0, entries[] = {1.0, 0.75, 1.0 / 3.0, tiny, 3 * tiny, 0x1p1023, huge};
     for (size_t i = 0; i < sizeof entries / sizeof *entries; i++) {
         const double z = entries[i];
-        CHECK(same(product_of(1, z, 0.5, 1.0), z) && same(product_of(1, -z, 0.5, 1.0), -z));
-        CHECK(same(product_of(1, z, 0.5, -1.0), -z) && same(product_of(1, -z, 0.5, -1.0), z));
+        CHECK(is(product_of(1, z, 0.5, 1.0), z, 0) && is(product_of(1, -z, 0.5, 1.0), -z, 0));
+        CHECK(is(product_of(1, z, 0.5, -1.0), -z, 0) && is(product_of(1, -z, 0.5, -1.0), z, 0));
     }
-    const double nan = huge - huge, z = product_of(1, nan, 0.5, 1.0);
-    CHECK(z != z);
-    CHECK(same(product_of(1, 0.0, 0.5, 1.0), 0.0) && same(product_of(1, -0.0, 0.5, 1.0), 0.0));
-    CHECK(same(product_of(1, 0.0, 0.5, -1.0), 0.0) && same(product_of(1, -0.0, 0.5, -1.0), 0.0));
-    /* and so over two where the search for a pivot ends at zero; a product that is too small for a float has its sign */
-    CHECK(same(product_of(2, -0.0, 0.5, 1.0), 0.0) && same(product_of(2, 0.5, -0.0, 1.0), 0.0));
-    CHECK(same(product_of(2, 0.5, -0.25, -1.0), 0.125) && same(product_of(2, 0x1p-600, -0x1p-600, 1.0), -0.0));
+    const double nan = huge - huge;
+    const struct number z = product_of(1, nan, 0.5, 1.0);
+    CHECK(z.value != z.value && z.row == 0);
+    CHECK(is(product_of(1, 0.0, 0.5, 1.0), 0.0, 1) && is(product_of(1, -0.0, 0.5, 1.0), 0.0, 1));
+    CHECK(is(product_of(1, 0.0, 0.5, -1.0), 0.0, 1) && is(product_of(1, -0.0, 0.5, -1.0), 0.0, 1));
+    /* of two, the mode of qubit 1 comes first; a product that is too small for a float has its sign and no row */
+    CHECK(is(product_of(2, -0.0, 0.5, 1.0), 0.0, 3) && is(product_of(2, 0.5, -0.0, 1.0), 0.0, 1));
+    CHECK(is(product_of(2, 0.5, -0.25, -1.0), 0.125, 0) && is(product_of(2, 0x1p-600, -0x1p-600, 1.0), -0.0, 0));
+}
+
+/* a state by its entries 01, 02, 03, 12, 13, 23 */
+#define STATE_OF(a, b, c, d, e, f) \
+    {0.0, (a), (b), (c), -(a), 0.0, (d), (e), -(b), -(d), 0.0, (f), -(c), -(e), -(f), 0.0, 1.0, 1.0, 1.0, 1.0}
+
+/* the row is that of the search for a pivot which ended at zero, in the matrix as it is by then */
+static void test_rows(void) {
+    static const uint16_t modes[2] = {0, 1};
+    const double nan = 1.0 / 0.0 - 1.0 / 0.0, more = 1.0 + 0x1p-52, less = 1.0 - 0x1p-53;
+    const struct {
+        int line;
+        double state[JOZKERAL_STATE_PLACES(2)];
+        uint64_t row;
+    } found[] = {
+        {__LINE__, STATE_OF(0.0, 0.0, 0.0, 0.0, 0.0, 0.5), 1},
+        {__LINE__, STATE_OF(0.5, 0.0, 0.0, 0.0, 0.0, 0.0), 3},
+        /* rows 1 and 2 are exchanged, so that the entry 23 counts no more */
+        {__LINE__, STATE_OF(0.0, 1.0, 0.0, 0.0, 0.0, 0.0), 3},
+        {__LINE__, STATE_OF(0.0, 1.0, 0.0, 0.0, 0.0, 0.5), 3},
+        /* the elimination cancels, the second time by rounding */
+        {__LINE__, STATE_OF(0.5, 0.0, 0.5, 0.5, 0.0, -0.5), 3},
+        {__LINE__, STATE_OF(1.0, 0.0, less, more, 0.0, -1.0), 3},
+        /* no NaN after a zero is above it */
+        {__LINE__, STATE_OF(0.0, nan, nan, 0.0, 0.0, 0.5), 1},
+        {__LINE__, STATE_OF(-0.0, 0.0, nan, 0.5, nan, 0.5), 1},
+    };
+    for (size_t i = 0; i < sizeof found / sizeof *found; i++) check(is(product_on(found[i].state, modes, 2), 0.0, found[i].row), "a row", found[i].line);
+    const double first_nan[] = STATE_OF(nan, 1.0, 1.0, 1.0, 1.0, 1.0), small[] = STATE_OF(0x1p-600, 0.0, 0.0, 0.0, 0.0, 0x1p-600);
+    const struct number z = product_on(first_nan, modes, 2);
+    CHECK(z.value != z.value && z.row == 0);
+    CHECK(is(product_on(small, modes, 2), 0.0, 0));
+}
+
+/* the marginal over the first k qubits, each of which is asked for its bit; Z of qubit 0 is z0, of qubit 1 it is z1 */
+static struct number marginal_of(size_t k, double z0, double z1, uint8_t b0, uint8_t b1) {
+    const size_t qubits[2] = {0, 1};
+    const uint16_t modes[2] = {0, 1};
+    const uint8_t bits[2] = {b0, b1};
+    const double state[] = STATE_OF(z0, 0.0, 0.0, 0.0, 0.0, z1);
+    double work[JOZKERAL_QUERY_PLACES(2)], answer[1] = {7.0};
+    uint64_t place[1], row[1] = {7};
+    CHECK(jozkeral_marginal_probability(2, state, JOZKERAL_STATE_PLACES(2), modes, 2, qubits, k, bits, k, work, JOZKERAL_QUERY_PLACES(k), place, 1,
+                                        answer, 1, row, 1) == 0);
+    return (struct number){answer[0], row[0]};
+}
+
+/* a marginal has a row only from its Pfaffian's stop: none where the Pfaffian with the sign of the bits is below zero or a NaN */
+static void test_marginal_rows(void) {
+    const double nan = 1.0 / 0.0 - 1.0 / 0.0, near = 1.0 - 0x1p-53;
+    CHECK(is(marginal_of(1, 1.0, 0.0, 1, 0), 0.0, 1) && is(marginal_of(1, -1.0, 0.0, 0, 0), 0.0, 1));
+    CHECK(is(marginal_of(2, 1.0, -1.0, 0, 0), 0.0, 3) && is(marginal_of(2, 1.0, -1.0, 1, 0), 0.0, 1));
+    CHECK(is(marginal_of(1, 3.0, 0.0, 1, 0), 0.0, 0) && is(marginal_of(1, nan, 0.0, 0, 0), 0.0, 0));
+    CHECK(is(marginal_of(2, 3.0, 1.0, 1, 0), 0.0, 0) && is(marginal_of(2, 3.0, 1.0, 1, 1), 0.0, 3));
+    CHECK(is(marginal_of(1, near, 0.0, 1, 0), 0x1p-54, 0));
 }
 
 static void test_samples(void) {
@@ -527,7 +636,7 @@ static void test_apply(void) {
     struct lent l = state_of_bits();
     double *s = at(&l.state), op[JOZKERAL_OP_PLACES] = {1.0, 1.0, 1.0, 0.0, 0.0, -1.0}, work[JOZKERAL_QUERY_PLACES(1)], z[1];
     const uint16_t *m = (const uint16_t *)at(&l.tables) + JOZKERAL_MODES_AT;
-    uint64_t place[1];
+    uint64_t place[1], row[1];
     CHECK(jozkeral_apply(3, s, l.state.len, m, MODES, op, JOZKERAL_OP_PLACES - 1) == JOZKERAL_OPERATION);
     op[1] = 3.0;
     CHECK(jozkeral_apply(3, s, l.state.len, m, MODES, op, JOZKERAL_OP_PLACES) == JOZKERAL_OPERATION);
@@ -540,7 +649,8 @@ static void test_apply(void) {
     op[1] = m[0]; /* a map of determinant -1 on the mode of qubit 0 turns its Z, and no other */
     CHECK(jozkeral_apply(3, s, l.state.len, m, MODES, op, JOZKERAL_OP_PLACES) == 0);
     for (size_t q = 0; q < 2; q++)
-        CHECK(jozkeral_expectation_z_product(3, s, l.state.len, m, MODES, &q, 1, work, JOZKERAL_QUERY_PLACES(1), place, 1, z, 1) == 0 && z[0] == -1.0);
+        CHECK(jozkeral_expectation_z_product(3, s, l.state.len, m, MODES, &q, 1, work, JOZKERAL_QUERY_PLACES(1), place, 1, z, 1, row, 1) == 0 &&
+              z[0] == -1.0);
     CHECK(untouched_from(&l.state, STATE));
     give_back(&l);
 }
@@ -553,8 +663,10 @@ int main(void) {
     test_report();
     test_compile();
     test_queries();
-    test_products();
+    test_asked();
     test_bits_of_one();
+    test_rows();
+    test_marginal_rows();
     test_samples();
     test_apply();
     printf("abi.c: %d checks, %d failed\n", checks, failures);

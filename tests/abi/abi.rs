@@ -1,8 +1,8 @@
 //! Calls the engine's library from Rust on many tapes.
 //!
 //! Good tapes: `compile` and `run` tell the same report; the state of a run is that of the vacuum with the run's own operations applied one by
-//! one; queries that must agree do so bit for bit; on register tapes every answer is the bit register's. Damaged tapes: every one is answered
-//! by both calls with the same number and place below 9, and refusals keep their promises about the slices.
+//! one; queries that must agree do so bit for bit, and in their rows; on register tapes every answer is the bit register's. Damaged tapes: every
+//! one is answered by both calls with the same number and place below 9, and refusals keep their promises about the slices.
 //!
 //!     abi [TAPES [SEED]]        TAPES good tapes and ten times as many damaged ones
 
@@ -12,8 +12,9 @@ mod jozkeral;
 #[path = "../../host/src/layout.rs"]
 mod layout;
 
-use jozkeral::{Refusal, Report, State, Work};
+use jozkeral::{Number, Refusal, Report, State, Work};
 use layout::*;
+use std::collections::BTreeMap;
 
 struct Rng(u64);
 
@@ -167,22 +168,36 @@ fn agree(r: &mut Rng, s: State) {
     let all: Vec<usize> = (0..s.n).collect();
     let bits: Vec<u8> = all.iter().map(|q| (index >> q & 1) as u8).collect();
     let p = s.probability(index, r.next(), &mut work).unwrap();
-    assert_eq!(p.to_bits(), s.marginal_probability(&all, &bits, &mut work).unwrap().to_bits());
+    let marginal = s.marginal_probability(&all, &bits, &mut work).unwrap();
+    assert_eq!(p.to_bits(), marginal.value.to_bits());
+    assert!(is_well(marginal, s.n));
     let (i, j) = (r.below(s.n), r.below(s.n));
     let mut product = |list: &[usize]| s.expectation_z_product(list, &mut work);
-    let (z, zz) = (product(&[i]).unwrap().to_bits(), product(&[i, j]).unwrap().to_bits());
-    assert_eq!(z, entry(s, i).to_bits());
-    assert_eq!(z, product(&[j, i, j]).unwrap().to_bits());
-    assert_eq!(zz, product(&[j, i]).unwrap().to_bits());
-    assert_eq!(zz, product(&[i, i, j, i]).unwrap().to_bits());
+    let (z, zz) = (product(&[i]).unwrap(), product(&[i, j]).unwrap());
+    assert!(is_well(z, 1) && is_well(zz, 2));
+    let value = entry(s, i);
+    assert_eq!(told(z), told(Number { value, row: (value == 0.0).then_some(0) }));
+    assert_eq!(told(z), told(product(&[j, i, j]).unwrap()));
+    assert_eq!(told(zz), told(product(&[j, i]).unwrap()));
+    assert_eq!(told(zz), told(product(&[i, i, j, i]).unwrap()));
     assert_eq!(product(&[s.n]), Err(Refusal { number: 19, place: 0 }));
     assert_eq!(product(&[i, s.n]), Err(Refusal { number: 19, place: 1 }));
     assert!(work.iter().take(4).all(|x| x.to_bits() == 0));
     let mut few = [3.0; query_places(1)];
     let refused = Err(Refusal { number: 20, place: 0 });
     assert_eq!((s.expectation_z_product(&[i], &mut few[1..]), few), (refused, [3.0; 4]));
-    assert_eq!(s.expectation_z_product(&[i], &mut few).unwrap().to_bits(), z);
+    assert_eq!(told(s.expectation_z_product(&[i], &mut few).unwrap()), told(z));
     assert_eq!(few.map(f64::to_bits), [0; 4]);
+}
+
+/// A number in every bit, and its row.
+fn told(x: Number) -> (u64, Option<usize>) {
+    (x.value.to_bits(), x.row)
+}
+
+/// Whether a number of so many modes at most has a row only if it is 0.0, and one that may be.
+fn is_well(x: Number, modes: usize) -> bool {
+    x.row.map_or(true, |row| x.value.to_bits() == 0 && row % 2 == 0 && row < 2 * modes)
 }
 
 /// Z of a qubit as the state has it: its entry times both signs, a zero without a sign.
@@ -202,14 +217,14 @@ fn register(r: &mut Rng, s: State, bits: &[bool]) {
     let mut work = vec![3.0; query_places(s.n)];
     let sign = |b: bool| if b { -1.0 } else { 1.0 };
     for (q, b) in bits.iter().enumerate() {
-        assert_eq!(s.expectation_z_product(&[q], &mut work), Ok(sign(*b)));
+        assert_eq!(s.expectation_z_product(&[q], &mut work), Ok(sign(*b).into()));
     }
     let list: Vec<usize> = (0..r.below(9)).map(|_| r.below(s.n)).collect();
     let odd = list.iter().filter(|q| bits[**q]).count() % 2 == 1;
-    assert_eq!(s.expectation_z_product(&list, &mut work), Ok(sign(odd)));
+    assert_eq!(s.expectation_z_product(&list, &mut work), Ok(sign(odd).into()));
     let asked: Vec<u8> = list.iter().map(|q| bits[*q] as u8 ^ (r.below(9) == 0) as u8).collect();
-    let right = list.iter().zip(&asked).all(|(q, x)| bits[*q] as u8 == *x);
-    assert_eq!(s.marginal_probability(&list, &asked, &mut work), Ok(if right { 1.0 } else { 0.0 }));
+    let marginal = s.marginal_probability(&list, &asked, &mut work);
+    assert_eq!(marginal, Ok(register_marginal(s.modes, bits, &list, &asked)));
     let index = bits.iter().rev().fold(0, |x, b| 2 * x + *b as u64);
     assert_eq!(s.probability(index, r.next(), &mut work), Ok(1.0));
     assert_eq!(s.probability(index ^ 1 << r.below(s.n), 0, &mut work), Ok(0.0));
@@ -217,6 +232,22 @@ fn register(r: &mut Rng, s: State, bits: &[bool]) {
     let mut out = [9u64; 7];
     s.sample(3, &draws, &mut work, &mut out).unwrap();
     assert_eq!(out, [index, 0, index, 0, index, 0, 9]);
+}
+
+/// A marginal of the bit register: the first wrong bit is found at the row of its mode among those that are listed, unless the list contradicts
+/// itself.
+fn register_marginal(modes: &[u16], bits: &[bool], list: &[usize], asked: &[u8]) -> Number {
+    let mut right = BTreeMap::new();
+    for (q, x) in list.iter().zip(asked) {
+        let is_right = bits[*q] as u8 == *x;
+        if right.insert(modes[*q], is_right).is_some_and(|before| before != is_right) {
+            return Number::from(0.0);
+        }
+    }
+    match right.values().position(|is_right| !is_right) {
+        Some(place) => Number { value: 0.0, row: Some(2 * place) },
+        None => Number::from(1.0),
+    }
 }
 
 /// A tape with some bytes changed, taken out, put in, or cut off.

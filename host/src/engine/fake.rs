@@ -1,6 +1,6 @@
 //! An engine for tests of what stands around the engine: it answers what it was told to.
 
-use super::{Compiled, Engine, Operation, Ordering, Refusal, Report, Run, State};
+use super::{Compiled, Engine, Number, Operation, Ordering, Refusal, Report, Run, State};
 use crate::layout::{question, HEADER_BYTES};
 
 /// Bytes of a gate: these tests have one-qubit gates with a code only.
@@ -84,17 +84,38 @@ impl Engine for Fake {
         }
     }
 
-    fn expectation_z_product(&self, state: &State, qubits: &[usize]) -> Result<f64, Refusal> {
+    /// The product of the parities; the first that is zero is found in the row of its place.
+    fn expectation_z_product(&self, state: &State, qubits: &[usize]) -> Result<Number, Refusal> {
         match qubits.iter().position(|q| self.silent || *q >= state.n) {
             Some(place) => Err(Refusal { number: question::LISTED, place: place as u64 }),
-            None => Ok(qubits.iter().map(|q| self.parities[*q]).product()),
+            None => {
+                let value = qubits.iter().map(|q| self.parities[*q]).product();
+                let row = qubits.iter().position(|q| self.parities[*q] == 0.0);
+                Ok(Number { value, row: row.map(|place| 2 * place) })
+            }
         }
     }
 
-    fn marginal_probability(&self, _: &State, _: &[usize], _: &[u8]) -> Result<f64, Refusal> {
-        Ok(1.25e-7)
+    /// A small one, but 0 if the list contradicts itself, or names a qubit whose parity is that of the other bit, which is
+    /// found in the row of its place, or one whose parity is 0.5.
+    fn marginal_probability(
+        &self,
+        _: &State,
+        qubits: &[usize],
+        bits: &[u8],
+    ) -> Result<Number, Refusal> {
+        let mut parts = qubits.iter().zip(bits);
+        let contrary = |(q, b)| parts.clone().any(|(p, c)| p == q && c != b);
+        if parts.clone().any(contrary) {
+            return Ok(Number::from(0.0));
+        }
+        let other = |(q, b): (&usize, &u8)| self.parities[*q] == f64::from(*b) * 2.0 - 1.0;
+        let row = parts.position(other).map(|place| 2 * place);
+        let zero = row.is_some() || qubits.iter().any(|q| self.parities[*q] == 0.5);
+        Ok(Number { value: if zero { 0.0 } else { 1.25e-7 }, row })
     }
 
+    /// 1 for the index 2.
     fn probability(&self, _: &State, index: u128) -> Result<f64, Refusal> {
         Ok(if index == 2 { 1.0 } else { 0.0 })
     }
