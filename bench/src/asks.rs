@@ -77,22 +77,25 @@ fn refused(rng: &mut Rng, n: usize, beyond: usize) -> Query {
     }
 }
 
-/// Whether the port gives what the original does, bit for bit; a zero probability is +0.0, where the original may give -0.0.
+/// Whether the port gives what the original does, bit for bit, and the row that the plain search finds on its way; a zero probability is +0.0,
+/// where the original may give -0.0.
 pub fn equal(query: &Query, original: &Answer, port: &Answer) -> bool {
     let probability = matches!(query, Query::Marginal(..) | Query::Probability(_));
     match (original, port) {
-        (Answer::Value(x), Answer::Value(y)) if probability && *x == 0.0 => same(0.0, *y),
-        (Answer::Value(x), Answer::Value(y)) => same(*x, *y),
+        (Answer::Value(x, row), Answer::Value(y, told)) => {
+            let zero = probability && *x == 0.0;
+            row == told && same(if zero { 0.0 } else { *x }, *y)
+        }
         (Answer::Shots(x), Answer::Shots(y)) => x == y,
         (Answer::Refused(a, b), Answer::Refused(c, d)) => (a, b) == (c, d),
         _ => false,
     }
 }
 
-/// Whether two answers differ by at most `CLOSE`.
+/// Whether two answers differ by at most `CLOSE`, whatever their rows.
 pub fn close(original: &Answer, port: &Answer) -> bool {
     match (original, port) {
-        (Answer::Value(x), Answer::Value(y)) => (x - y).abs() <= CLOSE,
+        (Answer::Value(x, _), Answer::Value(y, _)) => (x - y).abs() <= CLOSE,
         (Answer::Shots(x), Answer::Shots(y)) => x == y,
         (Answer::Refused(a, b), Answer::Refused(c, d)) => (a, b) == (c, d),
         _ => false,

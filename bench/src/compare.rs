@@ -44,10 +44,10 @@ impl Tally {
         self.differ += usize::from(!well);
     }
 
-    /// Prints the count; whether nothing differed.
+    /// Prints the count; whether something was compared and nothing differed.
     pub fn end(self) -> bool {
         println!("{:<12} {} compared, {} differ", self.name, self.compared, self.differ);
-        self.differ == 0
+        self.compared > 0 && self.differ == 0
     }
 }
 

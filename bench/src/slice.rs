@@ -1,6 +1,6 @@
 //! A state in the port's form: its slice and mode table. Calls on it get exactly the work that question 20 asks for.
 
-use crate::jozkeral::{self, Refusal, State};
+use crate::jozkeral::{self, Number, Refusal, State};
 use crate::layout::{covariance_places, index_of, index_words, kind, query_places, INDEX_WORDS};
 use crate::lent::OLD;
 use oracle::answer::Answer;
@@ -51,14 +51,14 @@ impl Slice {
         let state = State { n: self.n, slice: &self.places, modes: &self.modes };
         let mut well = true;
         let answer = match query {
-            Query::Product(qs) => state.expectation_z_product(qs, work).map(Answer::Value),
+            Query::Product(qs) => state.expectation_z_product(qs, work).map(numbered),
             Query::Marginal(qs, bits) => {
                 let bits: Vec<u8> = bits.iter().map(|&b| b.into()).collect();
-                state.marginal_probability(qs, &bits, work).map(Answer::Value)
+                state.marginal_probability(qs, &bits, work).map(numbered)
             }
             Query::Probability(x) => {
                 let [low, high] = index_words(*x);
-                state.probability(low, high, work).map(Answer::Value)
+                state.probability(low, high, work).map(|x| Answer::Value(x, None))
             }
             Query::Sample(shots, draws) => {
                 let mut out = vec![OLD_WORD; INDEX_WORDS * shots + GUARD];
@@ -74,6 +74,10 @@ impl Slice {
         well &= rest.iter().all(|&x| x == OLD);
         (answer.unwrap_or_else(|r| Answer::Refused(r.number as u8, r.place as usize)), well)
     }
+}
+
+fn numbered(number: Number) -> Answer {
+    Answer::Value(number.value, number.row)
 }
 
 /// The places of an operation.

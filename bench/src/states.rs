@@ -15,10 +15,11 @@ use original::access::state::access;
 /// The largest state of a random comparison.
 const SMALL: usize = 5;
 
-/// The calls, in the order of `kind`.
-const CALLS: [&str; 7] =
-    ["z of one", "z of two", "z_product", "marginal", "index", "sample", "apply"];
+/// The calls, in the order of `kind`; then the answers of products and marginals that have a row, which are compared among the others too.
+const CALLS: [&str; 8] =
+    ["z of one", "z of two", "z_product", "marginal", "index", "sample", "apply", "rows"];
 const APPLY: usize = 6;
+const ROWS: usize = 7;
 
 fn kind(query: &Query) -> usize {
     match query {
@@ -52,12 +53,13 @@ pub fn compare(rng: &mut Rng, count: usize) -> bool {
     tallies.into_iter().map(Tally::end).fold(true, |all, well| all & well)
 }
 
-/// A state with any floats, not antisymmetric.
+/// A state with any floats, not antisymmetric; of one in three few values, so that the Pfaffian stops in every row.
 fn any(rng: &mut Rng, n: usize) -> Slice {
-    let special = rng.chance(1, 2);
-    let float = |rng: &mut Rng| match special && rng.chance(1, 4) {
-        true => crate::inputs::any(rng),
-        false => 2.0 * rng.unit() - 1.0,
+    let kind = rng.below(3);
+    let float = |rng: &mut Rng| match kind {
+        0 => rng.pick(&[0.0, 0.0, -0.0, -0.0, 1.0, -1.0, 0.5]),
+        1 if rng.chance(1, 4) => crate::inputs::any(rng),
+        _ => 2.0 * rng.unit() - 1.0,
     };
     let places = (0..state_places(n)).map(|_| float(rng)).collect();
     Slice { n, places, modes: rng.permutation(n).into_iter().map(|k| k as u16).collect() }
@@ -82,10 +84,14 @@ fn one_of_each(rng: &mut Rng, mut slice: Slice, op: &GaussOp, tallies: &mut [Tal
         let (got, well) = slice.ask(&query);
         let want = answer_on(&s, n, &query);
         let well = well && asks::equal(&query, &want, &got);
-        tallies[kind(&query)].count(well, || {
+        let told = || {
             let (places, modes) = (texts(&slice.places), &slice.modes);
             format!(" {query}, modes {modes:?}, state{places}\n  original{want}\n  port    {got}")
-        });
+        };
+        tallies[kind(&query)].count(well, told);
+        if want.row().is_some() {
+            tallies[ROWS].count(well, told);
+        }
     }
     s.apply(op);
     let number = slice.apply(&places(op));

@@ -27,7 +27,7 @@ done
 for list in gates given phases; do
     "$ORACLE" classify "$list" | cmp - "$ROOT/crates/replay_classify/data/$list.bin"
 done
-for list in signs applies queries edges samples; do
+for list in signs applies queries edges samples stops; do
     "$ORACLE" state "$list" | cmp - "$ROOT/crates/replay_state/data/$list.bin"
 done
 for list in edges register signs mixed; do

@@ -4,8 +4,9 @@
   host.py ORACLE TOOL FILE
 
 Each list is written out as a list for people, with its angles in decimal; the tool makes its tape, runs it and answers its
-queries. Compared with the original: every byte of the tape, the report, the verdict, and the answers, bit for bit unless
-the list is angled: then within 1e-9, and nothing but the tape where document 01 does not compare (tolerance under 1e-12).
+queries. Compared with the original: every byte of the tape, the report, the verdict, and the answers, bit for bit with the
+rows of the oracle's plain search unless the list is angled: then within 1e-9 without rows, and nothing but the tape where
+document 01 does not compare (tolerance under 1e-12).
 """
 import json
 import math
@@ -93,11 +94,21 @@ def answers(text):
     return found
 
 
-def same(a, b, angled, signed):
-    """Whether two answers agree; with `signed` the signs of zeros too."""
+def same(a, row, answer, angled, signed):
+    """Whether a number with its row, if there is one, is the original's answer; with `signed` the signs of zeros too."""
+    word, *rest = answer.split()
+    b, other = number(word), int(rest[1]) if rest else None
     if angled:
         return abs(a - b) <= CLOSE
-    return a != a and b != b or a == b and (not signed or math.copysign(1, a) == math.copysign(1, b))
+    return row == other and (a != a and b != b or a == b and (not signed or math.copysign(1, a) == math.copysign(1, b)))
+
+
+def explained(x, told):
+    """Whether a number says where it comes from: nothing unless it is zero, `found` exactly where it has a row; an index never does."""
+    if "zero" not in told:
+        return told["kind"] == "index"
+    zero, row = told["zero"], told["row"]
+    return (zero is not None) == (x == 0) and (zero == "found") == (row is not None)
 
 
 def compare(said, original, queries, sample, exact_only):
@@ -117,15 +128,17 @@ def compare(said, original, queries, sample, exact_only):
         return wrong
     for parity in said["parities"]:
         line = f"prod {parity['qubit']}"
-        if line in original and not same(parity["z"], number(original[line]), angled, True):
+        if line in original and not same(parity["z"], parity["row"], original[line], angled, True):
             wrong.append(line)
+        wrong += [] if explained(parity["z"], parity) else [f"zero of {line}"]
     for line, query in zip(queries, said["queries"]):
         given = original[line]
         if given.startswith("refused"):
             right = given == f"refused {query.get('refused')} at {query.get('place')}"
         else:
-            right = "value" in query and same(query["value"], number(given), angled, line.startswith("prod"))
+            right = "value" in query and same(query["value"], query.get("row"), given, angled, line.startswith("prod"))
         wrong += [] if right else [line]
+        wrong += [f"zero of {line}"] if "value" in query and not explained(query["value"], query) else []
     if sample is not None and not angled and not original[sample].startswith("refused"):
         n, words = report["qubits"], original[sample].split()
         shots = [int(high + low, 16) for low, high in zip(words[::2], words[1::2])]

@@ -13,10 +13,11 @@ const REGISTER: usize = 11;
 const NEAR_DRAWS: usize = 12;
 const DIFFER: usize = 13;
 const OTHER_VERDICT: usize = 14;
+const ROWS: usize = 15;
 
 #[derive(Default)]
 pub struct Counts {
-    numbers: [usize; 15],
+    numbers: [usize; 16],
     /// The smallest case that differs, and in what.
     smallest: Option<(Case, &'static str)>,
 }
@@ -46,6 +47,7 @@ impl Counts {
             _ => {}
         }
         numbers[ANSWERS] += seen.answers;
+        numbers[ROWS] += seen.rows;
         numbers[REGISTER] += seen.register;
         numbers[NEAR_DRAWS] += seen.near_draws;
         numbers[DIFFER] += usize::from(seen.wrong.is_some());
@@ -64,8 +66,8 @@ impl Counts {
         let [r11, r12, r13, r14] = [0, 1, 2, 3].map(|k| n[REFUSED + k]);
         println!(
             "runs {name:<10} {exact} exact, {angled} angled, {} differ; accepted {}, refused by 11: {r11}, 12: {r12}, 13: {r13}, 14: {r14}; \
-             {} answers, {} also the register's",
-            n[DIFFER], n[ACCEPTED], n[ANSWERS], n[REGISTER]
+             {} answers, {} with a row, {} also the register's",
+            n[DIFFER], n[ACCEPTED], n[ANSWERS], n[ROWS], n[REGISTER]
         );
         if small + near + foreign + n[NEAR_DRAWS] > 0 {
             println!(

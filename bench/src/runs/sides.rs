@@ -42,8 +42,9 @@ pub struct Seen {
     /// The number of the port's refusal, or 0.
     pub number: u64,
     pub ran: Option<Ran>,
-    /// Answers that were compared, and those beside the bit register.
+    /// Answers that were compared, those with a row, and those beside the bit register.
     pub answers: usize,
+    pub rows: usize,
     pub register: usize,
     /// Samples of angled lists with other bits than the unmodified original's, where a draw lies next to a probability.
     pub near_draws: usize,
@@ -66,10 +67,10 @@ fn expect(well: bool, what: &'static str) -> Checked {
 
 impl Seen {
     fn of(how: How, check: impl FnOnce(&mut Seen) -> Checked) -> Seen {
-        let (number, ran, answers, register, near_draws) = (0, None, 0, 0, 0);
+        let (number, ran, answers, rows, register, near_draws) = (0, None, 0, 0, 0, 0);
         let (other_verdict, wrong) = (false, None);
         let mut seen =
-            Seen { how, number, ran, answers, register, near_draws, other_verdict, wrong };
+            Seen { how, number, ran, answers, rows, register, near_draws, other_verdict, wrong };
         seen.wrong = check(&mut seen).err();
         seen
     }
@@ -196,8 +197,11 @@ fn answers(
         expect(well, "work or output after a query")?;
         expect(equal(query, &original(query), &got), "an answer")?;
         seen.answers += 1;
-        if let (Some(register), Answer::Value(_) | Answer::Shots(_)) = (&register, &got) {
-            expect(equal(query, &register.answer(query), &got), "the register's answer")?;
+        seen.rows += usize::from(got.row().is_some());
+        if let (Some(register), Answer::Value(..) | Answer::Shots(_)) = (&register, &got) {
+            // the register knows no row
+            let same = equal(query, &register.answer(query), &got.rowless());
+            expect(same, "the register's answer")?;
             seen.register += 1;
         }
     }

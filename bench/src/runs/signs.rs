@@ -27,7 +27,7 @@ impl Signs {
     pub fn add(&mut self, ran: &Ran) {
         let (n, modes) = (ran.slice.n, ran.slice.mode_of_qubit());
         let port = |q: usize| match ran.slice.ask(&Query::z(q)).0 {
-            Answer::Value(x) => x,
+            Answer::Value(x, _) => x,
             _ => f64::NAN,
         };
         let other = |fault: Fault, least: f64| {

@@ -77,5 +77,6 @@ fn main(rt: HostRuntime) -> io::Result<()> {
     replay(&rt, "applies.bin")?;
     replay(&rt, "queries.bin")?;
     replay(&rt, "edges.bin")?;
-    replay(&rt, "samples.bin")
+    replay(&rt, "samples.bin")?;
+    replay(&rt, "stops.bin")
 }

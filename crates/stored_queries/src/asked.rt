@@ -1,6 +1,8 @@
 // Queries put to a state. A query is a tag, the number of words that follow, what is asked, the length of work and how many of its places are zero
-// after the call, the answer: number, place, value; then a sample's output. Work and output are 7 everywhere before a call.
+// after the call, the answer: number, place, value; then the row of a product or a marginal, or a sample's output. Before a call work and output are 7
+// everywhere.
 use laws::MAX_QUBITS;
+use queries::Answered;
 use state::Told;
 use stored::records::numbered;
 use stored::values::{Stored, Word, compare, is_cleared};
@@ -69,6 +71,13 @@ fn told<W: Words>(t: Told, words: &mut W) -> bool {
     place.is_ok() && value
 }
 
+// The same and the row, whose word is 0 if there is none, else the row and one.
+fn answered<W: Words>(a: Answered, words: &mut W) -> Option<bool> {
+    let told = told(a.told, words);
+    let row = size(words)?.checked_sub(1);
+    Some(told && a.row == row)
+}
+
 // So many entries, stored in at least so many words. A longer array is filled and its first part taken, since the words behind the entries are read too.
 fn listed<T: Word, W: Words>(count: usize, width: usize, words: &mut W) -> Option<[T; LISTED]> {
     let mut list = [T::of(0)?; LISTED];
@@ -78,30 +87,31 @@ fn listed<T: Word, W: Words>(count: usize, width: usize, words: &mut W) -> Optio
     Some(list)
 }
 
-// A query that works in lent floats. The words are work's length, how many of its places are zero after the call, and the answer.
-fn worked<W: Words, F: FnOnce(&mut [f64]) -> Told>(words: &mut W, ask: F) -> Option<bool>
+// What a query answers that works in lent floats, and what is left of these: the words are their number, and how many are zero after the call.
+fn worked<A, W: Words, F: FnOnce(&mut [f64]) -> A>(words: &mut W, ask: F) -> Option<(A, bool)>
     requires { F.IsAlwaysCallable ask }
 {
     let length = size(words)?;
     let zeros = size(words)?;
     let mut work = [7.0; stored::WORK];
     let answer = ask(work.get_mut(..length)?);
-    Some(told(answer, words) && is_cleared(&work, zeros, 7.0))
+    Some((answer, is_cleared(&work, zeros, 7.0)))
 }
 
 fn product<W: Words>(state: State, widths: Widths, words: &mut W) -> Option<bool> {
     let count = size(words)?;
     let list = listed(count, widths.qubits, words)?;
     let qubits = list.get(..count)?;
-    worked(words, |work| {
-        state::Told::from(queries::expectation_z_product(
+    let (answer, cleared) = worked(words, |work| {
+        Answered::from(queries::expectation_z_product(
             state.n,
             state.entries,
             state.modes,
             qubits,
             work,
         ))
-    })
+    })?;
+    Some(answered(answer, words)? && cleared)
 }
 
 fn marginal<W: Words>(state: State, widths: Widths, words: &mut W) -> Option<bool> {
@@ -111,8 +121,8 @@ fn marginal<W: Words>(state: State, widths: Widths, words: &mut W) -> Option<boo
     let bit_list = listed(bit_count, widths.qubits, words)?;
     let qubits = list.get(..count)?;
     let bits = bit_list.get(..bit_count)?;
-    worked(words, |work| {
-        state::Told::from(queries::marginal_probability(
+    let (answer, cleared) = worked(words, |work| {
+        Answered::from(queries::marginal_probability(
             state.n,
             state.entries,
             state.modes,
@@ -120,22 +130,17 @@ fn marginal<W: Words>(state: State, widths: Widths, words: &mut W) -> Option<boo
             bits,
             work,
         ))
-    })
+    })?;
+    Some(answered(answer, words)? && cleared)
 }
 
 fn probability<W: Words>(state: State, words: &mut W) -> Option<bool> {
     let low = words.word()?;
     let high = words.word()?;
-    worked(words, |work| {
-        state::Told::from(queries::probability(
-            state.n,
-            state.entries,
-            state.modes,
-            low,
-            high,
-            work,
-        ))
-    })
+    let (answer, cleared) = worked(words, |work| {
+        Told::from(queries::probability(state.n, state.entries, state.modes, low, high, work))
+    })?;
+    Some(told(answer, words) && cleared)
 }
 
 // The output's words stand after the answer.
@@ -147,8 +152,8 @@ fn sample<W: Words>(state: State, widths: Widths, words: &mut W) -> Option<bool>
     let draws = draw_list.get(..draw_count)?;
     let mut out = [7u64; OUT];
     let lent = out.get_mut(..length)?;
-    let same = worked(words, |work| {
-        state::Told::from(queries::sample(
+    let (answer, cleared) = worked(words, |work| {
+        Told::from(queries::sample(
             state.n,
             state.entries,
             state.modes,
@@ -158,6 +163,7 @@ fn sample<W: Words>(state: State, widths: Widths, words: &mut W) -> Option<bool>
             lent,
         ))
     })?;
+    let same = told(answer, words);
     let written = out.get(..length.max(widths.output))?;
-    Some(compare(written, words).is_ok() && same)
+    Some(compare(written, words).is_ok() && same && cleared)
 }

@@ -2,7 +2,7 @@
 //! compiled where they stand, below the folder that QSIM_SRC names; none is
 //! copied into this repository. The tree `access` holds the same text with an
 //! access module after the last line, `traced` that one with a line of `fuse`
-//! changed, `given` that with other gates, and `faulty` has a tree for each
+//! changed and one of `pfaffian`, `given` that with other gates, and `faulty` has a tree for each
 //! fault of the table below (see docs/TESTING.md).
 
 use std::path::{Path, PathBuf};
@@ -15,6 +15,10 @@ const STATE: &str = "src/engines/gaussian/state.rs";
 
 /// Where `fuse` classifies a cut, and the call that notes it.
 const TRACE: (&str, &str) = ("let cl = classify2(&u, opts);", "let cl = access::note(&u, opts);");
+
+/// Where `pfaffian` stops, and there the call that notes the row.
+const STOP: (&str, &str) =
+    ("if best == 0.0 {", "if best == 0.0 {\n            access::stopped(k);");
 
 /// The lines that name circuits and gates, and those that name ones with given matrices.
 const GIVEN: [(&str, &str); 2] = [
@@ -62,6 +66,7 @@ fn main() {
     let detect_access = with_access(&detect, "src/access_detect.rs", &out.join("detect.rs"));
     let state_access = with_access(&state, "src/access_state.rs", &out.join("state.rs"));
     let detect_traced = changed(&detect_access, &[TRACE], &out.join("detect_traced.rs"));
+    let state_traced = changed(&state_access, &[STOP], &out.join("state_traced.rs"));
     let detect_given = changed(&detect_traced, &GIVEN, &out.join("detect_given.rs"));
     let tree = format!(
         "#[path = {gate:?}] pub mod gate;\n\
@@ -73,7 +78,7 @@ fn main() {
          pub mod faulty {{\n{}}}\n",
         gaussian(&detect, &state),
         gaussian(&detect_access, &state_access),
-        gaussian(&detect_traced, &state_access),
+        gaussian(&detect_traced, &state_traced),
         faulty(&detect_given, &out),
     );
     write(&out.join("tree.rs"), &tree);

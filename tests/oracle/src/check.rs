@@ -88,7 +88,7 @@ impl Counts {
     }
 
     fn check_query(&mut self, list: &List, vector: &Vector, query: &Query, ask: Ask) {
-        let Answer::Value(got) = ask(query) else {
+        let Answer::Value(got, _) = ask(query) else {
             return;
         };
         let want = match query {

@@ -24,6 +24,7 @@ pub mod runs;
 pub mod selftest;
 pub mod state_lists;
 pub mod state_text;
+pub mod stops;
 pub mod stored_tapes;
 pub mod tape;
 pub mod traced;

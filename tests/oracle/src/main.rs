@@ -26,9 +26,12 @@ oracle classify LIST             the stored list LIST of blocks and their classe
 oracle runs LIST [SEED]          the stored list LIST of whole runs and queries, in binary: edges, register, signs or mixed;
                                  with a seed that is not 0 one of other random tapes
 oracle state LIST                the stored list LIST of states and calls on them, in binary: signs, applies, queries,
-                                 edges or samples
+                                 edges, samples or stops
 oracle print TAPE                the stored tape TAPE of the printing programs: cut, long, most or over
 oracle printed                   what must be printed of these tapes";
+
+/// Calls whose rows are compared, for each list of a family.
+const ROWS: usize = 100;
 
 fn main() -> ExitCode {
     let args: Vec<String> = std::env::args().skip(1).collect();
@@ -111,9 +114,11 @@ fn selftest(seed: u64, count: usize) -> Result<bool, String> {
     let out = selftest::selftest(seed, count);
     println!("module trees: {} compared, {} differ", out.compared, out.trees_differ);
     println!("list texts: {} read back, {} differ", out.compared, out.texts_differ);
+    let [calls, stops, rows_differ] = selftest::rows(seed, ROWS * count);
+    println!("rows: {calls} calls compared, {stops} of them stop, {rows_differ} differ");
     let tape = selftest::tape_is_right();
     println!("known tape: {}", if tape { "right" } else { "wrong" });
-    Ok(out.trees_differ + out.texts_differ == 0 && tape)
+    Ok(out.trees_differ + out.texts_differ + rows_differ == 0 && stops > 0 && tape)
 }
 
 fn reader(files: &[&str]) -> Result<bool, String> {

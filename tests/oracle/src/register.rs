@@ -28,7 +28,7 @@ impl Register {
         Some(Register { n, bits })
     }
 
-    /// The answer to a query that is not refused.
+    /// The answer to a query that is not refused: its number alone, since the register knows no row.
     pub fn answer(&self, query: &Query) -> Answer {
         let all: Vec<usize> = (0..self.n).collect();
         match query {
@@ -48,12 +48,12 @@ impl Register {
     /// "-1.0 if an odd number of ones is listed, each qubit counted as often as it stands there, otherwise 1.0"
     fn product(&self, qs: &[usize]) -> Answer {
         let ones = qs.iter().filter(|&&q| self.bit(q)).count();
-        Answer::Value(if ones % 2 == 1 { -1.0 } else { 1.0 })
+        Answer::Value(if ones % 2 == 1 { -1.0 } else { 1.0 }, None)
     }
 
     /// "0.0 if a listed qubit below n has another bit than the one asked, otherwise 1.0"
     fn marginal(&self, qs: &[usize], bits: &[bool]) -> Answer {
         let other = |(&q, &b): (&usize, &bool)| q < self.n && self.bit(q) != b;
-        Answer::Value(if qs.iter().zip(bits).any(other) { 0.0 } else { 1.0 })
+        Answer::Value(if qs.iter().zip(bits).any(other) { 0.0 } else { 1.0 }, None)
     }
 }

@@ -1,11 +1,13 @@
 //! Checks of the driver itself: the two module trees (the original as it stands,
 //! and its text with the access module) agree in everything on random lists, and
-//! the tree `given` in their items; a list's text reads back, and a known tape
-//! comes out right.
+//! the tree `given` in their items; the plain search tells the row in which the
+//! original's Pfaffian stops; a list's text reads back, and a known tape comes out
+//! right.
 
 use crate::families::FAMILIES;
 use crate::list::{parse_many, List, DROP, RELABEL};
 use crate::rng::Rng;
+use crate::state_lists::stops;
 use crate::state_text;
 use crate::tape::tape;
 use original::access::detect as detect_access;
@@ -36,6 +38,11 @@ pub fn selftest(seed: u64, count: usize) -> Outcome {
         }
     }
     out
+}
+
+/// So many random calls beside the original with a note where `pfaffian` stops: how many, how many of them stop, how many differ.
+pub fn rows(seed: u64, count: usize) -> [usize; 3] {
+    stops::traced(&mut Rng::new(seed), count)
 }
 
 /// Whether `fuse` gives the same in the tree `given`.

@@ -6,7 +6,7 @@ use crate::bits::word;
 use crate::layout::{index_words, query_places, INDEX_WORDS};
 use crate::list::List;
 use crate::query::Query;
-use crate::state_lists::machine::Machine;
+use crate::state_lists::machine::{row_word, Machine};
 use crate::state_lists::tag;
 use original::engines::gaussian::state::GaussianState;
 
@@ -17,15 +17,26 @@ pub struct Asked {
     before: Vec<u64>,
     /// The length of work and how many of its places are zero after the call.
     work: [u64; 2],
-    /// Number, place, value.
-    pub answer: [u64; 3],
+    /// Number, place, value; then the row's word, if it is a product or a marginal.
+    pub answer: Vec<u64>,
     /// The words of a sample.
     pub output: Vec<u64>,
 }
 
 impl Asked {
+    /// Whether the answer is this number, place and value with this row.
+    pub fn is(&self, told: [u64; 3], row: Option<usize>) -> bool {
+        let (own, rest) = self.answer.split_at(told.len());
+        own == told && rest.first().copied().unwrap_or(0) == row_word(row)
+    }
+
+    /// The row where the Pfaffian of a product or a marginal stops.
+    pub fn row(&self) -> Option<usize> {
+        self.answer.get(3)?.checked_sub(1).map(|row| row as usize)
+    }
+
     pub fn words(&self) -> Vec<u64> {
-        let parts = [&self.before[..], &self.work, &self.answer, &self.output].concat();
+        let parts = [&self.before, &self.work[..], &self.answer, &self.output].concat();
         [&[self.tag, parts.len() as u64], &parts[..]].concat()
     }
 }
@@ -73,9 +84,9 @@ fn ask(machine: &Machine, n: usize, k: usize, query: &Query) -> Asked {
     }
 }
 
-/// Work and answer are five words.
+/// Two words of work, then the answer.
 fn asked(tag: u64, before: Vec<u64>, words: &[u64]) -> Asked {
-    let (work, answer) = ([words[0], words[1]], [words[2], words[3], words[4]]);
+    let (work, answer) = ([words[0], words[1]], words[2..].to_vec());
     Asked { tag, before, work, answer, output: vec![] }
 }
 
@@ -85,11 +96,11 @@ fn is_original(asked: &Asked, list: &List, query: &Query, state: &GaussianState)
         return true;
     }
     match answer(state, list, query) {
-        Answer::Value(x) => asked.answer == [0, 0, word(x)],
-        Answer::Refused(number, place) => asked.answer == [u64::from(number), place as u64, 0],
+        Answer::Value(x, row) => asked.is([0, 0, word(x)], row),
+        Answer::Refused(number, place) => asked.is([u64::from(number), place as u64, 0], None),
         Answer::Shots(shots) => {
             let words = shots.iter().flat_map(|&x| index_words(x));
-            asked.answer == [0, 0, 0] && words.zip(&asked.output).all(|(a, b)| a == *b)
+            asked.is([0, 0, 0], None) && words.zip(&asked.output).all(|(a, b)| a == *b)
         }
     }
 }

@@ -4,6 +4,7 @@
 //! numbers 1 to 10, 15, 21 and 22 and all places are the paper's own: the
 //! original has no tape, no largest n, no lent slices, and takes any draw.
 
+use super::signs::quarter;
 use super::{add as add_record, add_run, asked, exactly, Lent, Ran, TOL};
 use crate::bits::word;
 use crate::compiled::edges::refused_tapes;
@@ -25,6 +26,8 @@ const BOTH: u8 = RELABEL | REORDER;
 #[derive(Clone, Copy)]
 enum Says {
     Value(f64),
+    /// Zero, where the Pfaffian stops in this row.
+    Stopped(usize),
     Refused(u64, u64),
     /// An answer is given: shots, or a value that is rounded.
     Given,
@@ -71,8 +74,9 @@ fn check(edge: &Edge, ran: &Ran) {
     assert_eq!(answers.len(), edge.says.len());
     for ((query, asked), says) in edge.list.queries.iter().zip(&answers).zip(&edge.says) {
         let right = match *says {
-            Says::Value(x) => asked.answer == [0, 0, word(x)],
-            Says::Refused(number, place) => asked.answer == [number, place, 0],
+            Says::Value(x) => asked.is([0, 0, word(x)], None),
+            Says::Stopped(row) => asked.is([0, 0, 0], Some(row)),
+            Says::Refused(number, place) => asked.is([number, place, 0], None),
             Says::Given => asked.answer[0] == 0,
         };
         assert!(right, "{query} of\n{}", edge.list);
@@ -100,7 +104,7 @@ fn zs(values: &[f64]) -> Vec<(Query, Says)> {
 }
 
 fn edges() -> Vec<Edge> {
-    [small(), questions(), order_of_questions(), large()].into_iter().flatten().collect()
+    [small(), questions(), stops(), order_of_questions(), large()].into_iter().flatten().collect()
 }
 
 /// Products, marginals, basis indices and draws.
@@ -108,9 +112,6 @@ fn questions() -> Vec<Edge> {
     use Query::*;
     use Says::*;
     let largest = f64::from_bits(1.0f64.to_bits() - 1);
-    let marginal = |qs: &[usize], bits: &[u8]| {
-        Marginal(qs.to_vec(), bits.iter().map(|&b| b == 1).collect::<Vec<bool>>())
-    };
     let flipped = vec![
         (Query::z(0), Value(-1.0)),
         (Product(vec![]), Value(1.0)),
@@ -138,7 +139,9 @@ fn questions() -> Vec<Edge> {
         (marginal(&[1, 0, 1], &[1, 0, 1]), Value(1.0)),
         (marginal(&[], &[]), Value(1.0)),
         (marginal(&[0, 1], &[0]), Refused(18, 0)),
-        (marginal(&[1], &[0]), Value(0.0)),
+        (marginal(&[1], &[0]), Stopped(0)),
+        (marginal(&[0, 1], &[0, 0]), Stopped(2)),
+        (marginal(&[1, 0], &[0, 1]), Stopped(0)),
         (Product(vec![0, 1, 2]), Refused(19, 2)),
         (Product(vec![0, 2]), Refused(19, 1)),
         (Product(vec![1, 0]), Value(-1.0)),
@@ -154,6 +157,35 @@ fn questions() -> Vec<Edge> {
         yes(of(2, BOTH, &[Gate::X(1)]), contradicting),
         yes(of(0, BOTH, &[]), none),
     ]
+}
+
+fn marginal(qs: &[usize], bits: &[u8]) -> Query {
+    Query::Marginal(qs.to_vec(), bits.iter().map(|&b| b == 1).collect())
+}
+
+/// Two pairs of qubits that agree, each by a quarter turn: within a pair every Z is zero and the product of both is not, so that a pair that
+/// is listed whole lets the search go on by four rows.
+fn stops() -> Vec<Edge> {
+    use Query::*;
+    use Says::*;
+    let asks = vec![
+        (Query::z(0), Stopped(0)),
+        (Query::z(3), Stopped(0)),
+        (Product(vec![0, 1]), Value(1.0)),
+        (Product(vec![2, 1]), Stopped(0)),
+        (Product(vec![2, 1, 0]), Stopped(4)),
+        (Product(vec![3, 0, 2]), Stopped(0)),
+        (Product(vec![0, 3, 1, 2]), Value(1.0)),
+        (marginal(&[2], &[1]), Value(0.5)),
+        (marginal(&[0, 1], &[0, 1]), Stopped(2)),
+        (marginal(&[0, 2], &[0, 1]), Value(0.25)),
+        (marginal(&[3, 2, 1, 0], &[0, 1, 1, 1]), Stopped(6)),
+        (marginal(&[3, 2, 1, 0], &[1, 1, 0, 0]), Value(0.25)),
+        (marginal(&[0, 1, 0], &[0, 1, 1]), Value(0.0)),
+        (Probability(0b0111), Value(0.0)),
+        (Probability(0b0011), Value(0.25)),
+    ];
+    vec![yes(of(4, 0, &[quarter(0, 1), quarter(2, 3)].concat()), asks)]
 }
 
 /// Tapes of a few gates.

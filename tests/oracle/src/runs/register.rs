@@ -34,6 +34,8 @@ struct Met {
     angled: usize,
     flags: [usize; 8],
     tolerances: [usize; 3],
+    /// Answers with the row 0, 2 or a later one.
+    rows: [usize; 3],
 }
 
 pub fn add(out: &mut Records, rng: &mut Rng) {
@@ -45,7 +47,8 @@ pub fn add(out: &mut Records, rng: &mut Rng) {
             met.add(out, &list, k % 4 == 0);
         }
     }
-    let least = met.flags.iter().chain(&met.tolerances).chain([&met.refused]).min();
+    let counts = met.flags.iter().chain(&met.tolerances).chain(&met.rows).chain([&met.refused]);
+    let least = counts.min();
     let enough = met.accepted >= 80 && met.angled >= 20 && least.is_some_and(|&k| k >= 3);
     assert!(enough, "{met:?}");
 }
@@ -59,11 +62,13 @@ impl Met {
     /// Adds a tape; one that is refused only if `refused` says so.
     fn add(&mut self, out: &mut Records, list: &List, refused: bool) {
         let ran = Ran::of(&List { tol: list.tol.max(TOL), ..list.clone() });
+        let mut rows = vec![];
         if ran.accepted() {
             let register = Register::of(list.n, &list.gates).expect("a register tape");
             let answers = asked::all(list, &ran);
             let all = list.queries.iter().zip(&answers);
             all.for_each(|(q, a)| assert!(gives(&register, q, a), "{q} of\n{list}"));
+            rows = answers.iter().filter_map(Asked::row).collect();
         } else {
             assert!(!accepts(list), "refused:\n{list}");
             if !refused {
@@ -76,6 +81,7 @@ impl Met {
             self.angled += usize::from(ran.seen.angled);
             self.flags[usize::from(list.flags & (RELABEL | REORDER | DROP))] += 1;
             self.tolerances[known(list.tol).expect("a tolerance")] += 1;
+            rows.iter().for_each(|row| self.rows[(row / 2).min(2)] += 1);
         }
     }
 }
@@ -90,13 +96,13 @@ fn accepts(list: &List) -> bool {
     list.limit >= covariance_bytes(list.n) && list.gates.iter().all(plain)
 }
 
-/// Whether an answer that is given is the register's.
+/// Whether the number of an answer that is given is the register's, which knows no row.
 fn gives(register: &Register, query: &Query, asked: &Asked) -> bool {
     if asked.answer[0] != 0 {
         return true;
     }
     match register.answer(query) {
-        Answer::Value(x) => asked.answer[2] == word(x),
+        Answer::Value(x, _) => asked.answer[2] == word(x),
         Answer::Shots(shots) => {
             let words = shots.iter().flat_map(|&x| index_words(x));
             words.zip(&asked.output).all(|(a, b)| a == *b)

@@ -1,6 +1,7 @@
 //! Parity-odd blocks between rotations: tapes on which an engine that loses a
 //! turn of the signs gives another Z.
 
+use super::asked;
 use super::faults::{turns, z, Fault, FAULTS};
 use super::ran::Ran;
 use super::{add_run, TOL};
@@ -21,8 +22,16 @@ const LONG: usize = 10;
 /// Differences of Z that count.
 const CLEAR: f64 = 0.01;
 
+/// What the tapes show.
+#[derive(Default, Debug)]
+struct Shown {
+    faults: [usize; FAULTS.len()],
+    /// Answers with the row 0 or a later one.
+    rows: [usize; 2],
+}
+
 pub fn add(out: &mut Records, rng: &mut Rng) {
-    let mut shown = [0; FAULTS.len()];
+    let mut shown = Shown::default();
     for (list, right, wrong) in named() {
         let ran = Ran::of(&list);
         assert_eq!(z(list.n, &ran.compiled.ops, Fault::None), right);
@@ -35,11 +44,12 @@ pub fn add(out: &mut Records, rng: &mut Rng) {
         let list = random(&mut rng.split(), count);
         count += usize::from(stored(out, &list, faults, &mut shown));
     }
-    assert!(shown[1].min(shown[3]) > RANDOM / 2, "a fault that few tapes show: {shown:?}");
+    let often = shown.faults[1].min(shown.faults[3]) > RANDOM / 2;
+    assert!(often && shown.rows[0].min(shown.rows[1]) >= 3, "what few tapes show: {shown:?}");
 }
 
 /// The quarter turn by XX: a signed permutation of the Majorana operators.
-fn quarter(a: usize, b: usize) -> Vec<Gate> {
+pub fn quarter(a: usize, b: usize) -> Vec<Gate> {
     vec![Gate::Cnot(a, b), Gate::Sx(a), Gate::Cnot(a, b)]
 }
 
@@ -56,12 +66,7 @@ fn named() -> [(List, [f64; 3], [f64; 3]); 2] {
 }
 
 /// Adds a tape, if an engine with any of the faults, and one that loses a single turn, give another Z.
-fn stored(
-    out: &mut Records,
-    list: &List,
-    faults: &[Fault],
-    shown: &mut [usize; FAULTS.len()],
-) -> bool {
+fn stored(out: &mut Records, list: &List, faults: &[Fault], shown: &mut Shown) -> bool {
     let ran = Ran::of(list);
     if !ran.accepted() || ran.seen.angled {
         return false;
@@ -76,7 +81,10 @@ fn stored(
     }
     assert!(is_right(list, &ran, &right), "another Z:\n{list}");
     assert!(add_run(out, &tape(list).expect("a tape"), list, &ran), "room for a tape");
-    FAULTS.iter().zip(shown).for_each(|(&fault, count)| *count += usize::from(shows(fault)));
+    let counts = FAULTS.iter().zip(&mut shown.faults);
+    counts.for_each(|(&fault, count)| *count += usize::from(shows(fault)));
+    let rows = asked::all(list, &ran).into_iter().filter_map(|asked| asked.row());
+    rows.for_each(|row| shown.rows[usize::from(row > 0)] += 1);
     true
 }
 
@@ -97,6 +105,7 @@ fn is_right(list: &List, ran: &Ran, z: &[f64]) -> bool {
 fn of(rng: &mut Rng, n: usize, flags: u8, gates: Vec<Gate>) -> List {
     let mut queries: Vec<Query> = (0..n).map(Query::z).collect();
     queries.push(Query::Product(vec![0, n - 1]));
+    queries.extend((1..n).map(|q| Query::Product(vec![q, q - 1])));
     queries.push(Query::Product((0..n).collect()));
     queries.push(Query::Marginal(vec![n - 1, 0], vec![rng.chance(1, 2), rng.chance(1, 2)]));
     queries.push(Query::Probability(u128::from(rng.word())));

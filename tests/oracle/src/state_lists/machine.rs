@@ -3,7 +3,7 @@
 //! Each call becomes a record.
 
 use super::tag;
-use crate::answer::{self, answer_on};
+use crate::answer::{self, answer_on, Asked};
 use crate::bits::word;
 use crate::layout::{
     covariance_places, index_of, index_words, kind, query_places, state_places, INDEX_WORDS,
@@ -11,6 +11,7 @@ use crate::layout::{
 };
 use crate::query::Query;
 use crate::records::Records;
+use crate::stops::Found;
 use original::access::detect::{GaussOp, InteractionPhase};
 use original::access::state::{access, GaussianState};
 use rand::Draws;
@@ -28,11 +29,19 @@ pub const OUT: usize = 16;
 /// What stands in work and output before a call.
 const OLD: u64 = 7;
 
-/// What a call answers: 0 or the question's number, its place, the value.
-type Answer = (u64, u64, f64);
+/// What a call answers: 0 or the question's number, its place, the value, the row.
+type Answer = (u64, u64, f64, Option<usize>);
 
 const fn refused(number: u64, place: usize) -> Answer {
-    (number, place as u64, 0.0)
+    (number, place as u64, 0.0, None)
+}
+
+/// What is zero before question 20 and has no row.
+const ZERO: Answer = (0, 0, 0.0, None);
+
+/// The word of a row: 0 if there is none, else the row and one.
+pub fn row_word(row: Option<usize>) -> u64 {
+    row.map_or(0, |row| row as u64 + 1)
 }
 
 /// The slice, n and the mode table.
@@ -158,34 +167,47 @@ impl Machine {
     /// The words of work and answer: work's length, how many of its places are zero after the call, number,
     /// place, value. `dim` is none if the answer comes before question 20.
     fn worked(&self, work: usize, dim: Option<usize>, value: impl Fn() -> Answer) -> Vec<u64> {
-        let (zeros, (number, place, x)) = match dim {
+        let mut words = self.rowed(work, dim, value);
+        assert_eq!(words.pop(), Some(0), "a row of a call that tells none");
+        words
+    }
+
+    /// The same and the row's word.
+    fn rowed(&self, work: usize, dim: Option<usize>, value: impl Fn() -> Answer) -> Vec<u64> {
+        let (zeros, (number, place, x, row)) = match dim {
             Some(dim) if work < dim * dim => (0, refused(20, 0)),
             Some(dim) => (dim * dim, value()),
             None => (0, value()),
         };
-        vec![work as u64, zeros as u64, number, place, word(x)]
+        vec![work as u64, zeros as u64, number, place, word(x), row_word(row)]
+    }
+
+    /// The original's value, and the row that the plain search finds.
+    fn value(&self, query: &Query) -> Answer {
+        match answer_on(&self.original(), self.n, query) {
+            answer::Answer::Value(x, row) => (0, 0, x, row),
+            other => panic!("{query} of good qubits gives{other}"),
+        }
+    }
+
+    /// What the plain search finds of a product or a marginal.
+    pub fn search(&self, query: &Query) -> Option<Found> {
+        self.original().search(self.n, query)
     }
 
     /// Number and place of a list's refusal, else the original's product.
     pub fn product_words(&self, qubits: &[usize], work: usize) -> Vec<u64> {
         let bad = qubits.iter().position(|&q| q >= self.n);
         match (self.state_ok(), bad) {
-            (false, _) => self.worked(work, None, || refused(16, 0)),
-            (_, Some(place)) => self.worked(work, None, || refused(19, place)),
+            (false, _) => self.rowed(work, None, || refused(16, 0)),
+            (_, Some(place)) => self.rowed(work, None, || refused(19, place)),
             _ => {
                 let odd = (0..self.n)
                     .filter(|q| qubits.iter().filter(|&x| x == q).count() % 2 == 1)
                     .count();
-                self.worked(work, Some(2 * odd), || (0, 0, self.product_value(qubits)))
+                let query = Query::Product(qubits.to_vec());
+                self.rowed(work, Some(2 * odd), || self.value(&query))
             }
-        }
-    }
-
-    /// The original's product of good qubits.
-    fn product_value(&self, qubits: &[usize]) -> f64 {
-        match answer_on(&self.original(), self.n, &Query::Product(qubits.to_vec())) {
-            answer::Answer::Value(x) => x,
-            other => panic!("a product of good qubits gives{other}"),
         }
     }
 
@@ -208,25 +230,24 @@ impl Machine {
 
     pub fn marginal_words(&self, qubits: &[usize], bits: &[u8], work: usize) -> Vec<u64> {
         if !self.state_ok() {
-            return self.worked(work, None, || refused(16, 0));
+            return self.rowed(work, None, || refused(16, 0));
         }
         if qubits.len() != bits.len() || bits.iter().any(|&b| b > 1) {
-            return self.worked(work, None, || refused(18, 0));
+            return self.rowed(work, None, || refused(18, 0));
         }
         let mut seen: Vec<(usize, u8)> = vec![];
         for (place, (&q, &b)) in qubits.iter().zip(bits).enumerate() {
             if q >= self.n {
-                return self.worked(work, None, || refused(19, place));
+                return self.rowed(work, None, || refused(19, place));
             }
             match seen.iter().find(|x| x.0 == q) {
-                Some(&(_, other)) if other != b => return self.worked(work, None, || (0, 0, 0.0)),
+                Some(&(_, other)) if other != b => return self.rowed(work, None, || ZERO),
                 Some(_) => {}
                 None => seen.push((q, b)),
             }
         }
-        let bools: Vec<bool> = bits.iter().map(|&b| b == 1).collect();
-        let value = || self.original().marginal_probability(qubits, &bools).expect("good qubits");
-        self.worked(work, Some(2 * seen.len()), || (0, 0, value()))
+        let query = Query::Marginal(qubits.to_vec(), bits.iter().map(|&b| b == 1).collect());
+        self.rowed(work, Some(2 * seen.len()), || self.value(&query))
     }
 
     /// `probability`: the two words of the index, then work and answer.
@@ -241,7 +262,7 @@ impl Machine {
             || self.original().probability(index_of(low, high)).expect("at most 128 qubits");
         match self.state_ok() {
             false => self.worked(work, None, || refused(16, 0)),
-            true => self.worked(work, Some(2 * self.n), || (0, 0, value())),
+            true => self.worked(work, Some(2 * self.n), || (0, 0, value(), None)),
         }
     }
 
@@ -277,7 +298,7 @@ impl Machine {
         };
         let place = if number == 22 { bad().unwrap_or(0) } else { 0 };
         let dim = (number != 16).then_some(2 * self.n);
-        let answer = self.worked(work, dim, || (number, place as u64, 0.0));
+        let answer = self.worked(work, dim, || refused(number, place));
         let mut output = vec![OLD; out];
         if answer[2] == 0 {
             let shots = self.shots(shots, &draws[..used]);

@@ -7,6 +7,7 @@ pub mod machine;
 mod queries;
 mod samples;
 mod signs;
+pub mod stops;
 
 use crate::layout::{covariance_places, OP_PLACES};
 use crate::rng::Rng;
@@ -32,9 +33,10 @@ pub fn list(name: &str) -> Result<Vec<u8>, String> {
         "queries" => queries::add(&mut machine),
         "edges" => queries::add_edges(&mut machine),
         "samples" => samples::add(&mut machine),
+        "stops" => stops::add(&mut machine),
         _ => {
             return Err(format!(
-                "there is no list `{name}`: signs, applies, queries, edges or samples"
+                "there is no list `{name}`: signs, applies, queries, edges, samples or stops"
             ))
         }
     }

@@ -13,7 +13,7 @@ pub fn add(machine: &mut Machine) {
         arbitrary(machine, rng, n, kind);
     }
     // entries of equal magnitude, of which the Pfaffian takes the first
-    for _ in 0..10 {
+    for _ in 0..9 {
         arbitrary(machine, rng, 4, Floats::Few);
     }
 }
