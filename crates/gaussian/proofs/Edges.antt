@@ -131,8 +131,9 @@ pub parses : (parse (tape 2 0 128 0 []) ≡ accepted (headed 2 0 128) nothing)
     × (parse (tape 2 0 128 0 cz01) ≡ accepted (headed 2 0 128) (only cz_on01))
     × (parse (tape 3 2 32 1 iswap02) ≡ accepted (headed 3 2 288) (only iswap_on02))
     × (parse (tape 3 0 32 1 iswap02) ≡ accepted (headed 3 0 288) (only iswap_on02))
-unfolding parse after_header header_of header_marked is_tolerance header_at le64 le32 le16 of_bits lt le walk stepped record_at marked_at gate_record_at qubits_of
-    gate_length floats_of gate_fault qubits_below qubits_differ entries_small all_below sound with_gate gate_at matrix1_at matrix2_at matrix1q_of matrix2q_of
+unfolding parse after_header header_of header_marked is_tolerance header_at le64 le32 le16 of_bits lt le walk stepped record_at marked_at gate_record_at
+    qubits_of gate_length floats_of gate_fault qubits_below qubits_differ entries_small all_below sound with_gate gate_at matrix1_at matrix2_at
+    matrix1q_of matrix2q_of
 parses = (refl, refl, refl, refl, refl, refl, refl, refl)
 
 -- ---- interactions

@@ -1,11 +1,26 @@
--- The number alone: `pfaffian` as 001 has it, which returns 0.0 where the search ended at zero, and of an odd dimension. The definition with rows
--- (specs/Pfaffian.antt) is held to it by `end-number` (Stops.antt): so it is written out again, and laws of the number are shown of it. Assumes nothing.
-use Rattle.std.specs.Prelude.{cond, ℕ, zero, suc, ◌/◌, ◌%◌, eqb, Float}
+-- The Pfaffian's number and its row, each alone; and `pfaffian` as 001 has it, which returns 0.0 where the search ended at zero, and of an odd dimension. The
+-- definition with rows (specs/Pfaffian.antt) is held to that by `end-number` (Stops.antt): so it is written out again, and laws of the number are shown of it.
+-- Assumes nothing.
+use Rattle.std.specs.Prelude.{cond, Option, Some, None, ℕ, zero, suc, ◌/◌, ◌%◌, eqb, Float}
 use Rattle.std.specs.Float.{binary64}
 use Rattle.std.specs.Float.Ieee.{mul, neg, eq}
 use Rattle.laws.specs.Zeros.{+0, +1}
 use Rattle.laws.specs.Matrix.{Mat}
+use Rattle.pfaffian.specs.declared.pairs.End.{End}
+use Rattle.pfaffian.specs.declared.pairs.End.TheVariants.{Value, Stopped}
 use Rattle.pfaffian.specs.Pfaffian.{pivot_of, pivoted, less}
+
+-- its number, which is 0.0 at a stop
+abbrev pub number_of : End → Float
+number_of (Value x) = x
+number_of (Stopped k) = +0
+
+-- its row, if it stopped
+abbrev pub row_of : End → Option ℕ
+row_of (Value x) = None
+row_of (Stopped k) = Some k
+
+-- ---- 001's
 
 -- p pairs from k on, with `acc` so far
 unfoldable pub pf : Mat → ℕ → ℕ → ℕ → Float → Float

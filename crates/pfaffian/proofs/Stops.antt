@@ -3,27 +3,23 @@
 use mathlib.Core.Path.{◌≡◌, refl, sym, subst, ◌∙◌}
 use mathlib.Core.Logic.{inl, inr}
 use mathlib.Core.Bool.{Bool, true, false, cond, false≢true}
-use Prim.Native.Nat.{ℕ, zero, suc, ◌+◌, ◌-◌, ◌*◌, ◌/◌, ◌%◌, ◌≤◌, ◌<◌, zero-le}
-use native.Mathlib.Nat.{mul-pos, lt_irrefl, zero-lt-suc, le_refl}
+use Prim.Native.Nat.{ℕ, zero, suc, ◌+◌, ◌-◌, ◌*◌, ◌/◌, ◌%◌, ◌≤◌, ◌<◌}
+use native.Mathlib.Nat.{le_refl}
 use native.Mathlib.Omega.{arith}
-use lib.Dec.{eqb, ltb}
-use lib.IntN.{ℤ}
-use lib.Ieee.{Float, nan, inf, fin, binary64, mul, neg, lt, eq, up, down}
-use lib.Ieee.Fits.{up_pos}
-use borrow.Author.Tests.{eqb-true, ne_eqb, le-ltb}
+use lib.Dec.{eqb}
+use lib.Ieee.{Float, binary64, mul, neg, lt, eq}
+use borrow.Author.Tests.{eqb-true}
 use Rattle.std.specs.Prelude.{Some}
 use Rattle.std.proofs.lemmas.Bool.{cases_eq}
 use Rattle.std.proofs.lemmas.Option.{none-some, same_Some}
 use Rattle.laws.specs.Zeros.{+0, +1, nz}
 use Rattle.laws.specs.Matrix.{Mat}
-use Rattle.laws.proofs.Zeros.{flat, lt-cong}
 use Rattle.num.specs.Order.{abs_of}
-use Rattle.num.proofs.Alike.{abs-cong}
 use Rattle.pfaffian.specs.declared.pairs.End.{End}
 use Rattle.pfaffian.specs.declared.pairs.End.TheVariants.{Stopped}
-use Rattle.pfaffian.specs.Pfaffian.{search, pivot_of, pivoted, less, ended, pfaffian_of, number_of, row_of}
-use Rattle.pfaffian.proofs.Number.{pf, pfaffian_number}
-use Rattle.pfaffian.proofs.Seen.{abs-zero}
+use Rattle.pfaffian.specs.Pfaffian.{search, pivot_of, pivoted, less, ended, pfaffian_of}
+use Rattle.pfaffian.proofs.Number.{number_of, row_of, pf, pfaffian_number}
+use Rattle.pfaffian.proofs.Seen.{abs-zero, zero-abs, above-zero, above-some}
 
 -- ---- the number
 
@@ -51,45 +47,13 @@ pub record Empty (row : ℕ → Float) (k dim : ℕ) : Type 0 where
   pub first : nz (row (suc k)) ≡ +0
   pub later : (j : ℕ) → suc (suc k) ≤ j → j < dim → lt +0 (abs_of (row j)) ≡ false
 
--- a significand above zero makes no zero
-pub not-zero : (s : Bool) (m : ℕ) (e : ℤ) → eq (abs_of (fin s (suc m) e)) +0 ≡ false
-unfolding eq abs_of
-not-zero s m e = rw (ne_eqb (suc m * up e * 1) (0 * 1 * down e) (λ h. lt_irrefl 0 (subst (λ (x : ℕ). 0 < x) (h ∙ none (down e)) above)))
-  where
-    above : 0 < suc m * up e * 1
-    above = mul-pos (mul-pos (zero-lt-suc m) (up_pos e)) (omega arith)
-
-    none : (d : ℕ) → 0 * 1 * d ≡ 0
-    none d = omega arith
-
-zero-abs : (x : Float) → eq (abs_of x) +0 ≡ true → nz x ≡ +0
-unfolding eq abs_of
-zero-abs nan h = absurd (false≢true h)
-zero-abs (inf s) h = absurd (false≢true h)
-zero-abs (fin s zero e) h = refl
-zero-abs (fin s (suc m) e) h = absurd (false≢true (sym (not-zero s m e) ∙ h))
-
--- what is above a zero is above 0.0
-above-zero : (x y : Float) → nz x ≡ +0 → lt (abs_of x) y ≡ lt +0 y
-unfolding abs_of
-above-zero x y h = lt-cong (abs_of x) y +0 y (abs-cong x +0 h) refl
-
--- what is above an absolute value is no zero
-above-some : (x y : Float) → lt (abs_of x) (abs_of y) ≡ true → eq (abs_of y) +0 ≡ false
-unfolding lt eq abs_of
-above-some x nan h = refl
-above-some x (inf s) h = refl
-above-some x (fin s (suc m) e) h = not-zero s m e
-above-some nan (fin s zero e) h = absurd (false≢true h)
-above-some (inf t) (fin s zero e) h = absurd (false≢true h)
-above-some (fin t m d) (fin s zero e) h = absurd (false≢true (sym none ∙ h))
-  where
-    none : ltb (m * up d * down e) (0 * up e * down d) ≡ false
-    none = rw (flat (up e) (down d)) (le-ltb (m * up d * down e) 0 zero-le)
-
 -- the best so far is the absolute value of x: n candidates from column j on are none better
 abbrev None-above : (ℕ → Float) → Float → ℕ → ℕ → Type 0
 None-above row x j n = (nz x ≡ +0) × ((i : ℕ) → j ≤ i → i < j + n → lt +0 (abs_of (row i)) ≡ false)
+
+-- the rest of the search, by whether candidate j is the better one
+abbrev taken : (ℕ → Float) → ℕ → ℕ → Float → ℕ → Bool → Float × ℕ
+taken row n j x piv t = elim t [ true ↦ search row n (suc j) (abs_of (row j)) j | false ↦ search row n (suc j) (abs_of x) piv ]
 
 ends-empty : (row : ℕ → Float) (n j : ℕ) (x : Float) (piv : ℕ) → eq (search row n j (abs_of x) piv).0 +0 ≡ true → None-above row x j n
 unfolding search
@@ -97,11 +61,9 @@ ends-empty row zero j x piv h = (zero-abs x h, λ i l b. absurd (omega arith))
 ends-empty row (suc n) j x piv h =
     by (lt (abs_of x) (abs_of (row j))) refl h (ends-empty row n (suc j) (row j) j) (ends-empty row n (suc j) x piv)
   where
-    pick : Bool → Float × ℕ
-    pick t = elim t [ true ↦ search row n (suc j) (abs_of (row j)) j | false ↦ search row n (suc j) (abs_of x) piv ]
-
-    by : (t : Bool) → lt (abs_of x) (abs_of (row j)) ≡ t → eq (pick t).0 +0 ≡ true
-        → (eq (pick true).0 +0 ≡ true → None-above row (row j) (suc j) n) → (eq (pick false).0 +0 ≡ true → None-above row x (suc j) n)
+    by : (t : Bool) → lt (abs_of x) (abs_of (row j)) ≡ t → eq (taken row n j x piv t).0 +0 ≡ true
+        → (eq (taken row n j x piv true).0 +0 ≡ true → None-above row (row j) (suc j) n)
+        → (eq (taken row n j x piv false).0 +0 ≡ true → None-above row x (suc j) n)
         → None-above row x j (suc n)
     by true e h u v = absurd (false≢true (sym (above-some x (row j) e) ∙ abs-zero (row j) (u h).0))
     by false e h u v =
@@ -117,11 +79,8 @@ empty-ends : (row : ℕ → Float) (n j : ℕ) (x : Float) (piv : ℕ) → None-
 unfolding search
 empty-ends row zero j x piv h = abs-zero x h.0
 empty-ends row (suc n) j x piv h =
-    subst (λ (t : Bool). eq (pick t).0 +0 ≡ true) (sym (above-zero x (abs_of (row j)) h.0 ∙ h.1 j (le_refl j) (omega arith)))
+    subst (λ (t : Bool). eq (taken row n j x piv t).0 +0 ≡ true) (sym (above-zero x (abs_of (row j)) h.0 ∙ h.1 j (le_refl j) (omega arith)))
     (empty-ends row n (suc j) x piv (h.0, λ i l b. h.1 i (omega arith) (omega arith)))
-  where
-    pick : Bool → Float × ℕ
-    pick t = elim t [ true ↦ search row n (suc j) (abs_of (row j)) j | false ↦ search row n (suc j) (abs_of x) piv ]
 
 -- "a stop with the row .. where the pivot search ended at zero": exactly where the row, as it is by then, has no candidate above zero
 pub stops-empty : (row : ℕ → Float) (k dim : ℕ) → k + 2 ≤ dim → eq (pivot_of row k dim).0 +0 ≡ true → Empty row k dim

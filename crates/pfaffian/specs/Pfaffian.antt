@@ -1,7 +1,7 @@
 -- The Pfaffian (001, `pfaffian`) of a matrix given by its entries: elimination by pairs of rows, with a pivot. "The Pfaffian's answer becomes a value
 -- with its float, or a stop with the row (from 0, in the matrix as swapped by then) where the pivot search ended at zero" (document 02): the code's own enum.
 -- Only entries of rows and columns from k on are read at pair k, k + 1. Assumes nothing. A public promise rests on this.
-use Rattle.std.specs.Prelude.{true, false, cond, Option, Some, None, ℕ, zero, suc, ◌-◌, ◌/◌, ◌%◌, eqb, Float}
+use Rattle.std.specs.Prelude.{true, false, cond, ℕ, zero, suc, ◌-◌, ◌/◌, ◌%◌, eqb, Float}
 use Rattle.std.specs.Float.{binary64}
 use Rattle.std.specs.Float.Ieee.{add, mul, div, neg, lt, eq}
 use Rattle.laws.specs.Zeros.{+0, +1}
@@ -46,15 +46,3 @@ ended a (suc p) k dim acc =
 -- "An odd dimension stops at row 0."
 unfoldable pub pfaffian_of : ℕ → Mat → End
 pfaffian_of dim a = cond (eqb (dim % 2) 1) (Stopped 0) (ended a (dim / 2) 0 dim +1)
-
--- ---- taken apart
-
--- its number, which is 0.0 at a stop
-abbrev pub number_of : End → Float
-number_of (Value x) = x
-number_of (Stopped k) = +0
-
--- its row, if it stopped
-abbrev pub row_of : End → Option ℕ
-row_of (Value x) = None
-row_of (Stopped k) = Some k

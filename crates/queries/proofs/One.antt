@@ -24,8 +24,7 @@ use Rattle.state.proofs.Permutations.{mode-below}
 use Rattle.state.proofs.Questions as questions
 use Rattle.pfaffian.specs.declared.pairs.End.TheVariants.{Value, Stopped}
 use Rattle.pfaffian.specs.Pfaffian.{search, ended, pfaffian_of}
-use Rattle.pfaffian.proofs.Seen.{abs-zero}
-use Rattle.pfaffian.proofs.Stops.{not-zero}
+use Rattle.pfaffian.proofs.Seen.{abs-zero, not-zero}
 use Rattle.queries.specs.Answers.{Number, rowless, stopped, taken_apart, given}
 use Rattle.queries.specs.Lists.{first_from, oddly, passing, bad_place, odd_modes}
 use Rattle.queries.specs.Products.{z_of, restricted, product_of}

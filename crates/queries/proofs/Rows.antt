@@ -1,5 +1,5 @@
 -- Laws of the row beside a number. The numbers are what they were: 001's Pfaffian, of a marginal with its sign and not below zero. Where there is a row the
--- answer is 0.0, and the row is even and below twice n. Assumes nothing. A public promise rests on this.
+-- answer is 0.0, and the row is even and below twice the modes left. Assumes nothing. A public promise rests on this.
 use mathlib.Core.Path.{◌≡◌, refl, sym, ap, ◌∙◌}
 use mathlib.Core.Bool.{Bool, true, false, cond}
 use mathlib.Core.List.{List, [], ◌∷◌}
@@ -19,8 +19,8 @@ use Rattle.laws.proofs.Tests.{count-le}
 use Rattle.num.specs.Order.{abs_of}
 use Rattle.pfaffian.specs.declared.pairs.End.{End}
 use Rattle.pfaffian.specs.declared.pairs.End.TheVariants.{Value, Stopped}
-use Rattle.pfaffian.specs.Pfaffian.{search, ended, pfaffian_of, number_of, row_of}
-use Rattle.pfaffian.proofs.Number.{pfaffian_number}
+use Rattle.pfaffian.specs.Pfaffian.{search, ended, pfaffian_of}
+use Rattle.pfaffian.proofs.Number.{number_of, row_of, pfaffian_number}
 use Rattle.pfaffian.proofs.Stops.{Row, end-number, row-is}
 use Rattle.state.specs.Modes.{is_permutation}
 use Rattle.state.specs.Questions.{state_ok}

@@ -64,18 +64,28 @@ impl Query {
     }
 }
 
+// What a query answers.
+trait Answer: Copy {
+    // Whether the words, which are passed over, say the same; nothing where they are no answer.
+    fn is_said<W: Words>(self, words: &mut W) -> Option<bool>;
+}
+
 // Number, place and value.
-fn told<W: Words>(t: Told, words: &mut W) -> bool {
-    let place = compare(&[t.number, t.place], words);
-    let value = t.value.agrees(words);
-    place.is_ok() && value
+impl Answer for Told {
+    fn is_said<W: Words>(self, words: &mut W) -> Option<bool> {
+        let place = compare(&[self.number, self.place], words);
+        let value = self.value.agrees(words);
+        Some(place.is_ok() && value)
+    }
 }
 
 // The same and the row, whose word is 0 if there is none, else the row and one.
-fn answered<W: Words>(a: Answered, words: &mut W) -> Option<bool> {
-    let told = told(a.told, words);
-    let row = size(words)?.checked_sub(1);
-    Some(told && a.row == row)
+impl Answer for Answered {
+    fn is_said<W: Words>(self, words: &mut W) -> Option<bool> {
+        let told = self.told.is_said(words)?;
+        let row = size(words)?.checked_sub(1);
+        Some(told && self.row == row)
+    }
 }
 
 // So many entries, stored in at least so many words. A longer array is filled and its first part taken, since the words behind the entries are read too.
@@ -87,22 +97,22 @@ fn listed<T: Word, W: Words>(count: usize, width: usize, words: &mut W) -> Optio
     Some(list)
 }
 
-// What a query answers that works in lent floats, and what is left of these: the words are their number, and how many are zero after the call.
-fn worked<A, W: Words, F: FnOnce(&mut [f64]) -> A>(words: &mut W, ask: F) -> Option<(A, bool)>
+// A query that works in lent floats. The words are work's length, how many of its places are zero after the call, and the answer.
+fn worked<A: Answer, W: Words, F: FnOnce(&mut [f64]) -> A>(words: &mut W, ask: F) -> Option<bool>
     requires { F.IsAlwaysCallable ask }
 {
     let length = size(words)?;
     let zeros = size(words)?;
     let mut work = [7.0; stored::WORK];
     let answer = ask(work.get_mut(..length)?);
-    Some((answer, is_cleared(&work, zeros, 7.0)))
+    Some(answer.is_said(words)? && is_cleared(&work, zeros, 7.0))
 }
 
 fn product<W: Words>(state: State, widths: Widths, words: &mut W) -> Option<bool> {
     let count = size(words)?;
     let list = listed(count, widths.qubits, words)?;
     let qubits = list.get(..count)?;
-    let (answer, cleared) = worked(words, |work| {
+    worked(words, |work| {
         Answered::from(queries::expectation_z_product(
             state.n,
             state.entries,
@@ -110,8 +120,7 @@ fn product<W: Words>(state: State, widths: Widths, words: &mut W) -> Option<bool
             qubits,
             work,
         ))
-    })?;
-    Some(answered(answer, words)? && cleared)
+    })
 }
 
 fn marginal<W: Words>(state: State, widths: Widths, words: &mut W) -> Option<bool> {
@@ -121,7 +130,7 @@ fn marginal<W: Words>(state: State, widths: Widths, words: &mut W) -> Option<boo
     let bit_list = listed(bit_count, widths.qubits, words)?;
     let qubits = list.get(..count)?;
     let bits = bit_list.get(..bit_count)?;
-    let (answer, cleared) = worked(words, |work| {
+    worked(words, |work| {
         Answered::from(queries::marginal_probability(
             state.n,
             state.entries,
@@ -130,17 +139,15 @@ fn marginal<W: Words>(state: State, widths: Widths, words: &mut W) -> Option<boo
             bits,
             work,
         ))
-    })?;
-    Some(answered(answer, words)? && cleared)
+    })
 }
 
 fn probability<W: Words>(state: State, words: &mut W) -> Option<bool> {
     let low = words.word()?;
     let high = words.word()?;
-    let (answer, cleared) = worked(words, |work| {
+    worked(words, |work| {
         Told::from(queries::probability(state.n, state.entries, state.modes, low, high, work))
-    })?;
-    Some(told(answer, words) && cleared)
+    })
 }
 
 // The output's words stand after the answer.
@@ -152,7 +159,7 @@ fn sample<W: Words>(state: State, widths: Widths, words: &mut W) -> Option<bool>
     let draws = draw_list.get(..draw_count)?;
     let mut out = [7u64; OUT];
     let lent = out.get_mut(..length)?;
-    let (answer, cleared) = worked(words, |work| {
+    let same = worked(words, |work| {
         Told::from(queries::sample(
             state.n,
             state.entries,
@@ -163,7 +170,6 @@ fn sample<W: Words>(state: State, widths: Widths, words: &mut W) -> Option<bool>
             lent,
         ))
     })?;
-    let same = told(answer, words);
     let written = out.get(..length.max(widths.output))?;
-    Some(compare(written, words).is_ok() && same && cleared)
+    Some(compare(written, words).is_ok() && same)
 }
