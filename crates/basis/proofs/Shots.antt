@@ -2,7 +2,7 @@
 -- measured one after the other, each with its bit for outcome; the table carries them over to the qubits. Assumes nothing.
 use mathlib.Core.Path.{◌≡◌, refl, sym, ap, ◌∙◌, subst}
 use mathlib.Core.Logic.{◌⊎◌, inl, inr}
-use mathlib.Core.Bool.{Bool, true, false, not, cond, ◌&&◌}
+use mathlib.Core.Bool.{Bool, true, not, cond, ◌&&◌}
 use mathlib.Core.List.{List}
 use Prim.Native.Nat.{ℕ, zero, suc, ◌+◌, ◌*◌, ◌/◌, ◌%◌, ◌≤◌, ◌<◌}
 use native.Mathlib.Nat.{le_refl}
@@ -20,13 +20,13 @@ use Rattle.monomial.specs.Basis.{IsBasis}
 use Rattle.pfaffian.specs.Shot.{draw_from, qubit_bit, word_of, shot, after_mode, reached, outcome}
 use Rattle.pfaffian.proofs.Listing.{shot-at, word_same}
 use Rattle.state.specs.Bounds.{dim_of}
-use Rattle.state.specs.Answers.{accepted, refused}
-use Rattle.state.specs.Questions.{state_ok}
+use Rattle.state.specs.Answers.{accepted}
 use Rattle.state.proofs.Permutations.{mode-below}
 use Rattle.queries.specs.Basis.{word_bits}
-use Rattle.queries.specs.Samples.{shots_ok, draw_ok_of, bad_draw_of, shot_at, word_at, sampled}
-use Rattle.queries.specs.Calls.{covariance_of, work_ok, shots_of, shots_out, sample_of, sample_out}
+use Rattle.queries.specs.Samples.{draw_ok_of, bad_draw_of, shot_at, word_at, sampled}
+use Rattle.queries.specs.Calls.{covariance_of, shots_of, shots_out, sample_of, sample_out}
 use Rattle.queries.proofs.Sampling.{draws-fit}
+use Rattle.queries.proofs.Draws.{sample-passed}
 use Rattle.basis.specs.Holds.{Reads}
 use Rattle.basis.specs.Answers.{shot_bit, register_low, register_high, register_shots}
 use Rattle.basis.proofs.First.{none_passes}
@@ -89,37 +89,15 @@ module _ (n : ℕ) (b r : ℕ → Bool) (e : Mat) (modes : List ℕ) (R : Reads 
         by j (inl h) = rw (lt-ltb j (2 * shots) h) (shot-is (j / 2) (j % 2) (omega arith))
         by j (inr h) = rw (le-ltb j (2 * shots) h)
 
--- ---- the call
+-- ---- the call: a sample that meets no question answered by no, in which every shot has the register's bits
 
-not-refused : (number place : ℕ) → (refused (suc number) place).number ≡ 0 → ⊥
-not-refused number place h = omega arith
-
-module _ (n : ℕ) (b r : ℕ → Bool) (s : List Float) (modes : List ℕ) (R : Reads n b r (covariance_of n s) modes)
-    (shots : ℕ) (draws w : List Float) (out : List ℕ) where
-  shots-told : (shots_of n shots draws out).number ≡ 0
-      → (shots_of n shots draws out ≡ accepted +0) × (shots_out (covariance_of n s) n modes shots draws out ≡ register_shots n r shots out)
-  unfolding shots_of shots_out
-  shots-told = by (shots_ok n shots draws out) (ltb place (n * shots)) refl
-    where
-      place : ℕ
-      place = bad_draw_of (n * shots) draws
-
-      by : (a c : Bool) → ltb place (n * shots) ≡ c → (cond a (cond c (refused 22 place) (accepted +0)) (refused 21 0)).number ≡ 0
-          → (cond a (cond c (refused 22 place) (accepted +0)) (refused 21 0) ≡ accepted +0)
-          × (cond a (cond c out (sampled (covariance_of n s) n modes shots draws out)) out ≡ register_shots n r shots out)
-      by true true e h = absurd (not-refused 21 place h)
-      by true false e h = (refl, sampled-is n b r (covariance_of n s) modes R shots draws (ltb-false place (n * shots) e) out)
-      by false c e h = absurd (not-refused 20 0 h)
-
-  -- a sample that meets no question answered by no: every shot has the register's bits
-  pub sample-told : (sample_of n s modes shots draws w out).number ≡ 0
-      → (sample_of n s modes shots draws w out ≡ accepted +0) × (sample_out n s modes shots draws w out ≡ register_shots n r shots out)
-  unfolding sample_of sample_out
-  sample-told = by (state_ok n s modes) (work_ok (dim_of n) w)
-    where
-      by : (a c : Bool) → (cond a (cond c (shots_of n shots draws out) (refused 20 0)) (refused 16 0)).number ≡ 0
-          → (cond a (cond c (shots_of n shots draws out) (refused 20 0)) (refused 16 0) ≡ accepted +0)
-          × (cond a (cond c (shots_out (covariance_of n s) n modes shots draws out) out) out ≡ register_shots n r shots out)
-      by true true h = shots-told h
-      by true false h = absurd (not-refused 19 0 h)
-      by false c h = absurd (not-refused 15 0 h)
+pub sample-told : (n : ℕ) (b r : ℕ → Bool) (s : List Float) (modes : List ℕ) → Reads n b r (covariance_of n s) modes
+    → (shots : ℕ) (draws w : List Float) (out : List ℕ) → (sample_of n s modes shots draws w out).number ≡ 0
+    → (sample_of n s modes shots draws w out ≡ accepted +0) × (sample_out n s modes shots draws w out ≡ register_shots n r shots out)
+unfolding sample_of sample_out shots_of shots_out
+sample-told n b r s modes R shots draws w out given =
+    let g = sample-passed n s modes shots draws w out given in (
+      rw (g.state, g.work, g.room, g.drawn) refl,
+      rw (g.state, g.work, g.room, g.drawn)
+          (sampled-is n b r (covariance_of n s) modes R shots draws (ltb-false (bad_draw_of (n * shots) draws) (n * shots) g.drawn) out),
+    )

@@ -11,12 +11,13 @@ use lib.Pow.{pow_pos, pow-add, pow-lt, shl_lt}
 use lib.Ieee.{Float, nan, inf, fin, binary64, prec, up, down, round, mul, neg, size, top, hid, fits, to_bits, of_bits}
 use lib.Ieee.Bits.{of_bits-to_bits}
 use lib.Ieee.Exact.{HasValue, round_exact}
-use lib.Ieee.Fits.{round-fits, down_pos, and_l, and_r, neg-fits, add-fits}
+use lib.Ieee.Fits.{round-fits, down_pos, and_l, and_r, neg-fits, add-fits, cond-fits}
 use lib.Ieee.Nearest.{div_same}
 use Rattle.std.proofs.lemmas.Bool.{cases_lt}
 use Rattle.laws.specs.Zeros.{+1, sg}
 use Rattle.laws.specs.Dyadic.{cap, finest}
-use Rattle.laws.specs.Maps.{dot}
+use Rattle.laws.specs.Matrix.{Mat}
+use Rattle.laws.specs.Maps.{Local, inside, dot, rows, cols}
 use Rattle.laws.proofs.Dyadic.{round-value}
 use Rattle.laws.proofs.Negatives.{unlike-false, false-unlike, mul-neg}
 
@@ -115,3 +116,11 @@ pub dot-fits : (q v : ℕ → Float) (k : ℕ) → T (fits binary64 (dot q v k))
 unfolding dot fits
 dot-fits q v zero = tt
 dot-fits q v (suc k) = add-fits binary64 (dot q v k) (mul binary64 (q k) (v k))
+
+-- and so what stands under a map of rows and columns does, where it did before
+pub maps-fit : (o : Local) (f : Mat) (r c : ℕ) → T (fits binary64 (f r c)) → T (fits binary64 (cols o (rows o f) r c))
+maps-fit o f r c h =
+    cond-fits binary64 (inside o c) (dot (o.map (c - o.start)) (λ j. rows o f r (o.start + j)) o.width) (rows o f r c)
+    (dot-fits (o.map (c - o.start)) (λ j. rows o f r (o.start + j)) o.width)
+    (cond-fits binary64 (inside o r) (dot (o.map (r - o.start)) (λ j. f (o.start + j) c) o.width) (f r c)
+    (dot-fits (o.map (r - o.start)) (λ j. f (o.start + j) c) o.width) h)

@@ -3,10 +3,10 @@
 use mathlib.Core.Path.{◌≡◌, refl, ap, subst}
 use mathlib.Core.Logic.{⊎_elim}
 use mathlib.Core.Bool.{Bool, true, false}
-use mathlib.Core.List.{List, [], ◌∷◌, ◌++◌, reverse_aux}
+use mathlib.Core.List.{List, [], ◌∷◌, ◌++◌, map, reverse_aux}
 use Prim.Native.Nat.{ℕ, zero, suc, ◌+◌, ◌≤◌, ◌<◌}
 use native.Mathlib.Omega.{arith}
-use Rattle.laws.specs.Lists.{All}
+use Rattle.laws.specs.Lists.{All, in_order}
 use Rattle.laws.specs.Views.{up_from, until, from}
 use Rattle.std.proofs.lemmas.Bool.{cases_eq, cases_Bool, cond_both}
 
@@ -74,3 +74,15 @@ module _ {A : Type 0} where
     unfolding from
     from_heads [] = tt
     from_heads (x ∷ xs) = cond_both (p x) _ _ Heads (λ e. e) (λ _. from_heads xs)
+
+-- ---- lists made by a function of another list's elements
+
+module _ {A B : Type 0} (g : A → B) where
+  pub all-of-map : (P : B → Type 0) (xs : List A) → All (λ x. P (g x)) xs → All P (map g xs)
+  all-of-map P [] h = tt
+  all-of-map P (x ∷ xs) h = (h.0, all-of-map P xs h.1)
+
+  pub in_order-map : {C : Type 0} (f : B → C → C) (xs : List A) (c : C) → in_order f (map g xs) c ≡ in_order (λ x. f (g x)) xs c
+  unfolding in_order
+  in_order-map f [] c = refl
+  in_order-map f (x ∷ xs) c = in_order-map f xs (f (g x) c)

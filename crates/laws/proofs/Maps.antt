@@ -5,7 +5,7 @@ use mathlib.Core.Logic.{◌⊎◌, inl, inr, ◌≢◌}
 use mathlib.Core.Bool.{true, false, cond}
 use mathlib.Core.List.{List}
 use Prim.Native.Nat.{ℕ, zero, suc, ◌+◌, ◌*◌, ◌-◌, ◌≤◌, ◌<◌}
-use native.Mathlib.Nat.{mul-le-mul_right, suc-mul, le_refl, add_assoc, add-sub_cancel_left}
+use native.Mathlib.Nat.{le_refl, add_assoc, add-sub_cancel_left}
 use native.Mathlib.Omega.{arith}
 use lib.ListN.{length, get_or, take, drop}
 use lib.Ieee.{Float, nan}
@@ -17,7 +17,7 @@ use Rattle.laws.specs.Loops.{up_to, by_row, by_col}
 use Rattle.std.proofs.lemmas.Bool.{cases_lt}
 use Rattle.laws.proofs.Views.{length-list_of, get_or-list_of}
 use Rattle.laws.proofs.Slices.{part_at, length-put, put-before, put-inside, put-after}
-use Rattle.laws.proofs.Matrix.{part_in, Within}
+use Rattle.laws.proofs.Matrix.{part_in, outside-part, Within}
 use Rattle.laws.proofs.Loops.{up_left, more}
 use Rattle.laws.proofs.Columns.{column-is, column-more}
 
@@ -129,12 +129,11 @@ module _ (o : Local) (dim r : ℕ) (m₀ m : List Float) (h : r < dim) (band : o
 
   pub row_other : (r' c : ℕ) → r' < dim → c < dim → r' ≢ r → at dim (row_turn o dim r m) r' c ≡ at dim m r' c
   unfolding on_part a mid part
-  row_other r' c h' g ne = by (cases_lt r' r) (cases_lt r r')
+  row_other r' c h' g ne = by (outside-part dim r r' c o.start o.width g band ne)
     where
-      by : (r' < r) ⊎ (r ≤ r') → (r < r') ⊎ (r' ≤ r) → at dim (row_turn o dim r m) r' c ≡ at dim m r' c
-      by (inl l) _ = put-before a o.width m part nan fit len (r' * dim + c) (omega (arith, suc-mul r' dim, mul-le-mul_right {m = suc r'} dim l))
-      by (inr _) (inl l) = put-after a o.width m part nan fit len (r' * dim + c) (omega (arith, suc-mul r dim, mul-le-mul_right {m = suc r} dim l))
-      by (inr l) (inr l') = absurd (ne (omega arith))
+      by : (r' * dim + c < r * dim + o.start) ⊎ (r * dim + o.start + o.width ≤ r' * dim + c) → at dim (row_turn o dim r m) r' c ≡ at dim m r' c
+      by (inl l) = put-before a o.width m part nan fit len (r' * dim + c) l
+      by (inr l) = put-after a o.width m part nan fit len (r' * dim + c) l
 
   pub row-own : ((c : ℕ) → c < dim → at dim m r c ≡ at dim m₀ r c) → (c : ℕ) → c < dim → at dim (row_turn o dim r m) r c ≡ cols o (at dim m₀) r c
   unfolding on_part a mid part rotated

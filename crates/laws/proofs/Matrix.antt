@@ -1,7 +1,7 @@
 -- Laws of a matrix that a list holds by rows: its places; `Is` and `matrix`, the two ways to say that it was made anew; one step after another; one store.
 -- The one fact that is not linear is `digits_lt`. Assumes nothing.
 use mathlib.Core.Path.{◌≡◌, refl, sym, ap, subst, ◌∙◌}
-use mathlib.Core.Logic.{◌⊎◌, inl, inr}
+use mathlib.Core.Logic.{◌⊎◌, inl, inr, ◌≢◌}
 use mathlib.Core.List.{List}
 use Prim.Native.Nat.{ℕ, zero, suc, ◌+◌, ◌*◌, ◌/◌, ◌%◌, ◌≤◌, ◌<◌, zero-le, suc-le-suc}
 use native.Mathlib.Nat.{mul-le-mul_right, suc-mul, div-lt_iff_lt-mul, div-add-mod', mod-lt, not-suc-le-zero, zero-mul, le_trans}
@@ -12,7 +12,7 @@ use lib.Seq.{ext_get_or, get_or-set_same, get_or-set_other}
 use lib.Ieee.{Float, nan}
 use borrow.Author.Tests.{lt-ltb, le-ltb}
 use Rattle.laws.specs.Slices.{filled}
-use Rattle.laws.specs.Matrix.{Mat, at, matrix, Is, Inside}
+use Rattle.laws.specs.Matrix.{Mat, at, matrix, Is}
 use Rattle.std.proofs.lemmas.Bool.{cases_lt}
 use Rattle.std.proofs.lemmas.Nat.{same_from_place}
 use Rattle.laws.proofs.Slices.{filled-over}
@@ -26,6 +26,15 @@ place_in dim r c h g = digits_lt h g
 -- the k places from column s of row r on
 pub part_in : (dim r s k : ℕ) → r < dim → s + k ≤ dim → r * dim + s + k ≤ dim * dim
 part_in dim r s k h b = omega (arith, suc-mul r dim, mul-le-mul_right {m = suc r} dim h)
+
+-- a place of another row lies outside that part
+pub outside-part : (dim r r' c s k : ℕ) → c < dim → s + k ≤ dim → r' ≢ r → (r' * dim + c < r * dim + s) ⊎ (r * dim + s + k ≤ r' * dim + c)
+outside-part dim r r' c s k g b ne = by (cases_lt r' r) (cases_lt r r')
+  where
+    by : (r' < r) ⊎ (r ≤ r') → (r < r') ⊎ (r' ≤ r) → (r' * dim + c < r * dim + s) ⊎ (r * dim + s + k ≤ r' * dim + c)
+    by (inl l) _ = inl (omega (arith, suc-mul r' dim, mul-le-mul_right {m = suc r'} dim l))
+    by (inr _) (inl l) = inr (omega (arith, suc-mul r dim, mul-le-mul_right {m = suc r} dim l))
+    by (inr l) (inr l') = absurd (ne (omega arith))
 
 -- two places are equal only if their rows and columns are
 pub row_of : (dim r c r' c' : ℕ) → c < dim → c' < dim → r * dim + c ≡ r' * dim + c' → r ≡ r'

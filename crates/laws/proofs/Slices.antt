@@ -7,7 +7,7 @@ use Prim.Native.Nat.{ℕ, zero, suc, ◌+◌, ◌-◌, ◌≤◌, ◌<◌}
 use native.Mathlib.Nat.{le_refl, le_antisymm, le_of_suc-le-suc, not-suc-le-zero, zero-add, add-sub_cancel_left}
 use native.Mathlib.Numerals.{add-one}
 use native.Mathlib.Omega.{arith}
-use lib.ListN.{length, get_or, take, drop, set, length-drop, get_or-append}
+use lib.ListN.{length, get_or, take, drop, set, length-map, length-drop, get_or-append}
 use lib.Seq.{sets, sets-eq, drop-length, length-take-le, get_or-take, get_or-drop, get_or-append-add, ext_get_or}
 use borrow.Rule.Slice.PartMut.{put_mid, mid_len, same_len_mid}
 use Rattle.laws.specs.Slices.{on_part, turns, mapped_to, filled}
@@ -140,3 +140,36 @@ filled-over {A = A} n v d l m e h = ext_get_or d (filled n v m) (filled n v l) (
     one : (i : ℕ) → i < length m → (i < n) ⊎ (n ≤ i) → get_or (filled n v m) i d ≡ get_or (filled n v l) i d
     one i g (inl k) = mapped-done (λ x. v) n m i d k g ∙ sym (mapped-done (λ x. v) n l i d k (rw e at g))
     one i g (inr k) = mapped-left (λ x. v) n m i d k ∙ h i k ∙ sym (mapped-left (λ x. v) n l i d k)
+
+-- ---- a part of which each element is made anew
+
+module _ {A : Type 0} (f : A → A) (a k : ℕ) (l : List A) (d : A) (fit : a + k ≤ length l) where
+  part : List A
+  part = take k (drop a l)
+
+  long : length part ≡ k
+  unfolding part
+  long = length-take-le k (drop a l) (simp length-drop (omega (arith, fit)))
+
+  len : length (map f part) ≡ k
+  len = length-map part f ∙ long
+
+  pub mapped_part-long : length (on_part a k (map f) l) ≡ length l
+  unfolding on_part part
+  mapped_part-long = length-put a k l (map f part) d fit len
+
+  pub mapped_part-before : (i : ℕ) → i < a → get_or (on_part a k (map f) l) i d ≡ get_or l i d
+  unfolding on_part part
+  mapped_part-before = put-before a k l (map f part) d fit len
+
+  pub mapped_part-inside : (j : ℕ) → j < k → get_or (on_part a k (map f) l) (a + j) d ≡ f (get_or l (a + j) d)
+  unfolding on_part part
+  mapped_part-inside j b =
+      put-inside a k l (map f part) d fit len j b
+      ∙ ap (λ m. get_or m j d) (sym (mapped-all f k part (omega (arith, long))))
+      ∙ mapped-done f k part j d b (omega (arith, long))
+      ∙ ap f (part_at a k l d j b)
+
+  pub mapped_part-after : (i : ℕ) → a + k ≤ i → get_or (on_part a k (map f) l) i d ≡ get_or l i d
+  unfolding on_part part
+  mapped_part-after = put-after a k l (map f part) d fit len

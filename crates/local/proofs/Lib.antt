@@ -2,6 +2,7 @@
 pub mod Stored
 mod Settling
 pub mod Steps
+pub mod Postponing
 mod Structs
 mod DetLaws
 mod Examples

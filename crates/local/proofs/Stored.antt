@@ -8,14 +8,13 @@ use Prim.Native.Nat.{ℕ, ◌+◌, ◌*◌, ◌-◌, ◌≤◌, ◌<◌}
 use native.Mathlib.Nat.{add-sub_cancel_left}
 use native.Mathlib.Omega.{arith}
 use lib.Dec.{leb}
-use lib.ListN.{length, get_or, take, drop, length-map, length-drop, get_or-eq_default}
-use lib.Seq.{length-take-le}
+use lib.ListN.{length, get_or, get_or-eq_default}
 use lib.Ieee.{Float, nan, neg}
 use borrow.Author.Tests.{lt-ltb, le-ltb, le-leb, lt-leb}
 use Rattle.laws.specs.Slices.{on_part}
 use Rattle.laws.specs.Matrix.{Mat, at, matrix}
 use Rattle.std.proofs.lemmas.Bool.{cases_lt}
-use Rattle.laws.proofs.Slices.{part_at, length-put, put-before, put-inside, put-after, mapped-all, mapped-done}
+use Rattle.laws.proofs.Slices.{mapped_part-long, mapped_part-before, mapped_part-inside, mapped_part-after}
 use Rattle.laws.proofs.Views.{length-list_of, get_or-list_of}
 use Rattle.laws.proofs.Matrix.{place_in, Within, is-matrix, matrix-is}
 use Rattle.local.specs.Bounds.{state_places}
@@ -143,47 +142,27 @@ module _ (dim a : ℕ) (s₀ s : List Float) (t : State) (room : state_places di
   k : ℕ
   k = dim - a
 
-  part : List Float
-  part = take k (drop p s)
-
   fit : p + k ≤ length s
   unfolding p k
   fit = omega (arith, w.long)
 
-  long-part : length part ≡ k
-  unfolding part
-  long-part = length-take-le k (drop p s) (simp length-drop (omega (arith, fit)))
-
-  len : length (map neg part) ≡ k
-  len = length-map part neg ∙ long-part
-
-  part-neg : (j : ℕ) → j < k → get_or (map neg part) j nan ≡ neg (get_or s (p + j) nan)
-  unfolding part
-  part-neg j b =
-      ap (λ l. get_or l j nan) (sym (mapped-all neg k part (omega (arith, long-part))))
-      ∙ mapped-done neg k part j nan b (omega (arith, long-part))
-      ∙ ap neg (part_at p k s nan j b)
-
   turned-sign : (i : ℕ) → i < dim → (i < a) ⊎ (a ≤ i) → get_or (turned dim a s) (dim * dim + i) nan ≡ cond (leb a i) (neg (t.d i)) (t.d i)
-  unfolding turned on_part p k part
-  turned-sign i g (inl l) = rw (lt-leb a i l) (put-before p k s (map neg part) nan fit len (dim * dim + i) (omega arith) ∙ w.sign i g)
+  unfolding turned p k
+  turned-sign i g (inl l) = rw (lt-leb a i l) (mapped_part-before neg p k s nan fit (dim * dim + i) (omega arith) ∙ w.sign i g)
   turned-sign i g (inr l) =
       let e : dim * dim + i ≡ p + (i - a) = omega arith in
-      let b : i - a < k = omega arith in
       rw (le-leb a i l)
       (ap (λ n. get_or (turned dim a s) n nan) e
-      ∙ put-inside p k s (map neg part) nan fit len (i - a) b
-      ∙ part-neg (i - a) b
+      ∙ mapped_part-inside neg p k s nan fit (i - a) (omega arith)
       ∙ ap (λ n. neg (get_or s n nan)) (sym e)
       ∙ ap neg (w.sign i g))
 
   pub turn_step : (s' : List Float) → s' ≡ on_part (dim * dim + a) (dim - a) (map neg) s
       → Stored dim s₀ (record { m = t.m; d = λ i. cond (leb a i) (neg (t.d i)) (t.d i) }) s'
-  unfolding turned on_part p k part
+  unfolding turned p k
   turn_step s' e = record {
-    long = rw e (length-put p k s (map neg part) nan fit len ∙ w.long);
-    entry = λ r c x y.
-        rw e (put-before p k s (map neg part) nan fit len (r * dim + c) (omega (arith, place_in dim r c x y)) ∙ w.entry r c x y);
+    long = rw e (mapped_part-long neg p k s nan fit ∙ w.long);
+    entry = λ r c x y. rw e (mapped_part-before neg p k s nan fit (r * dim + c) (omega (arith, place_in dim r c x y)) ∙ w.entry r c x y);
     sign = λ i g. rw e (turned-sign i g (cases_lt i a));
-    after = λ i g. rw e (put-after p k s (map neg part) nan fit len i (omega arith) ∙ w.after i g);
+    after = λ i g. rw e (mapped_part-after neg p k s nan fit i (omega arith) ∙ w.after i g);
   }

@@ -1,5 +1,5 @@
 -- A shot of two matrices that are seen alike is the same: so for equal ones, and for such as are equal up to the sign of a zero. A division is by a
--- den above 1e-300, which is no zero. Assumes nothing.
+-- den above 1e-300, which is no zero. And a shot of one matrix turns on its own draws alone. Assumes nothing.
 use mathlib.Core.Path.{◌≡◌, refl, sym, ap, ◌∙◌}
 use mathlib.Core.Logic.{◌≢◌}
 use mathlib.Core.Bool.{Bool, true, false, cond, ◌&&◌, true≢false}
@@ -109,3 +109,13 @@ shot-same e e' n t modes h = shot-of-seen (λ x. x) exactly t n modes e e' h
 
 pub shot-cong : (e e' : Mat) (n : ℕ) (t : ℕ → Float) (modes : ℕ → ℕ) → Alike nz 0 (2 * n) e e' → shot_of e n t modes ≡ shot_of e' n t modes
 shot-cong e e' n t modes h = shot-of-seen nz up-to-zeros t n modes e e' h
+
+-- ---- one matrix: only the draws of the n modes from k on are read
+
+pub shot-draws : (n k : ℕ) (m : Mat) (t t' : ℕ → Float) → ((x : ℕ) → k ≤ x → x < k + n → t x ≡ t' x) → shot m k n t ≡ shot m k n t'
+unfolding shot
+shot-draws zero k m t t' h = refl
+shot-draws (suc n) k m t t' h =
+    let same : drawn m k (t k) ≡ drawn m k (t' k) = ap (drawn m k) (h k (omega arith) (omega arith)) in
+    (λ i. same i ∷ shot (after_mode m k (same i)) (suc k) n t)
+    ∙ ap (λ l. drawn m k (t' k) ∷ l) (shot-draws n (suc k) (after_mode m k (drawn m k (t' k))) t t' (λ x a b. h x (omega arith) (omega arith)))

@@ -5,6 +5,7 @@ use mathlib.Core.List.{List}
 use Prim.Native.Nat.{ℕ, ◌<◌}
 use lib.Dec.{lit<}
 use lib.Ieee.{neg, lt, add, sub, mul, div, le, eq, is_nan}
+use Rattle.laws.specs.Lists.{in_order}
 use Rattle.laws.specs.Views.{up_from}
 use Rattle.laws.specs.Maps.{dot}
 use Rattle.num.specs.Order.{abs_of}
@@ -26,7 +27,7 @@ use Rattle.signs.proofs.Rows.{between, in_front, behind, twice, alone0, lower, S
 
 -- its answers to the worked rows, by computation: those of quantum mechanics (`say`). An engine with another test fails here
 own-answers : Answers own_engine between 1 minus × Answers own_engine alone0 1 minus × Answers own_engine lower 0 minus
-unfolding run_by R XI X map₁ map dot odd det up_from eliminated last_largest better_of lowered_all less abs_of lt le eq is_nan sub add mul div neg
+unfolding in_order R XI X map₁ map dot odd det up_from eliminated last_largest better_of lowered_all less abs_of lt le eq is_nan sub add mul div neg
 own-answers = (refl, refl, refl)
 
 -- it is the engine, and so it is right for every circuit
@@ -42,25 +43,25 @@ own-right n xs within = subst (λ (e : Engine). Right n xs (run_by e xs vacuum))
 -- ---- the wrong engines
 
 -- what they answer
-no-turn : Answers no_turn between 1 plus
-unfolding run_by R XI map dot odd det up_from eliminated last_largest better_of lowered_all less abs_of lt le eq is_nan sub add mul div neg
+pub no-turn : Answers no_turn between 1 plus
+unfolding in_order R XI map dot odd det up_from eliminated last_largest better_of lowered_all less abs_of lt le eq is_nan sub add mul div neg
 no-turn = refl
 
-own_turn-answers : Answers own_turn lower 0 plus
-unfolding run_by R X map₁ map dot odd det up_from eliminated last_largest better_of lowered_all less abs_of lt le eq is_nan sub add mul div neg
+pub own_turn-answers : Answers own_turn lower 0 plus
+unfolding in_order R X map₁ map dot odd det up_from eliminated last_largest better_of lowered_all less abs_of lt le eq is_nan sub add mul div neg
 own_turn-answers = refl
 
-no-settling : Answers no_settling between 1 plus
-unfolding run_by R XI map dot odd det up_from eliminated last_largest better_of lowered_all less abs_of lt le eq is_nan sub add mul div neg
+pub no-settling : Answers no_settling between 1 plus
+unfolding in_order R XI map dot odd det up_from eliminated last_largest better_of lowered_all less abs_of lt le eq is_nan sub add mul div neg
 no-settling = refl
 
-next-turn : Answers next_turn alone0 1 plus
-unfolding run_by R X map₁ map dot odd det up_from eliminated last_largest better_of lowered_all less abs_of lt le eq is_nan sub add mul div neg
+pub next-turn : Answers next_turn alone0 1 plus
+unfolding in_order R X map₁ map dot odd det up_from eliminated last_largest better_of lowered_all less abs_of lt le eq is_nan sub add mul div neg
 next-turn = refl
 
 -- where the turn is lost and it does not show: X in front, behind, twice between, or alone on mode 0
 no-turn-unseen : Answers no_turn in_front 1 minus × Answers no_turn behind 1 minus × Answers no_turn twice 1 minus × Answers no_turn alone0 1 minus
-unfolding run_by R XI X map₁ map dot odd det up_from eliminated last_largest better_of lowered_all less abs_of lt le eq is_nan sub add mul div neg
+unfolding in_order R XI X map₁ map dot odd det up_from eliminated last_largest better_of lowered_all less abs_of lt le eq is_nan sub add mul div neg
 no-turn-unseen = (refl, refl, refl, refl)
 
 -- ---- and so they are refused

@@ -8,6 +8,7 @@ use native.Mathlib.Omega.{arith}
 use lib.Dec.{eqb, lit<}
 use lib.ListN.{length}
 use lib.Ieee.{Float}
+use Rattle.laws.specs.Lists.{in_order}
 use Rattle.laws.specs.Zeros.{nz}
 use Rattle.laws.specs.Phase.{Phase, i3}
 use Rattle.real.specs.Maps.{local2, local4}
@@ -179,7 +180,7 @@ vacuum-holds n = record { turned = λ i. false; signs = λ i l. refl; entries = 
 
 ran-holds : (n : ℕ) (xs : List BlockOp) → Within n xs → (F : Str → Str) → Through F → (t : State)
     → Holds n t (λ a. F (gamma a)) → Holds n (run_by effect xs t) (λ a. F (pulled xs (gamma a)))
-unfolding run_by pulled
+unfolding in_order pulled
 ran-holds n [] w F through t h = h
 ran-holds n (x ∷ xs) w F through t h =
     ran-holds n xs w.1 (λ s. F (acts x s)) (acts-through x F through) (effect (operation x) t) (effect-holds n x w.0 F through t h)
@@ -199,7 +200,7 @@ stored-holds n t f s room h =
 
 applied-holds : (n : ℕ) (xs : List BlockOp) → Within n xs → (F : Str → Str) → Through F → (s : List Float) → state_places (dim_of n) ≤ length s
     → Holds n (state_at (dim_of n) s) (λ a. F (gamma a)) → Holds n (state_at (dim_of n) (applied_all n xs s)) (λ a. F (pulled xs (gamma a)))
-unfolding applied_all pulled
+unfolding in_order pulled
 applied-holds n [] w F through s room h = h
 applied-holds n (x ∷ xs) w F through s room h =
     let t = effect (operation x) (state_at (dim_of n) s) in

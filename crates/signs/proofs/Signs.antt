@@ -1,33 +1,29 @@
 -- THE SIGN THEOREM: the engine's own definition of apply is right for every circuit, on states, in the caller's slice, and by calls of `apply`
 -- (specs/Signs.antt says what that is). Assumes nothing.
 use mathlib.Core.Path.{◌≡◌, refl, sym, ap, subst, ◌∙◌}
-use mathlib.Core.Bool.{true, ◌&&◌}
+use mathlib.Core.Bool.{true}
 use mathlib.Core.List.{List, [], ◌∷◌}
 use Prim.Native.Nat.{ℕ, zero, suc, ◌+◌, ◌*◌, ◌<◌}
 use native.Mathlib.Omega.{arith}
-use lib.Dec.{leb}
-use lib.ListN.{length, get_or}
+use lib.ListN.{get_or}
 use lib.Ieee.{Float, binary64}
 use lib.Ieee.Fits.{mul-fits}
+use Rattle.laws.specs.Lists.{in_order}
 use Rattle.laws.specs.Zeros.{nz}
 use Rattle.laws.proofs.Zeros.{nz-nz}
-use Rattle.laws.specs.Bounds.{max_qubits}
-use Rattle.local.specs.Bounds.{state_places}
 use Rattle.local.specs.State.{State, state_at, stored, vacuum, get}
-use Rattle.local.proofs.Stored.{stored_is}
 use Rattle.state.specs.Bounds.{dim_of}
-use Rattle.state.specs.Modes.{is_permutation}
 use Rattle.state.specs.Questions.{state_ok}
-use Rattle.state.specs.Calls.{decoded_state, apply_state}
+use Rattle.state.specs.Calls.{decoded_state, apply_state, called}
 use Rattle.state.specs.Operation.{decode_of, effect, applied}
 use Rattle.std.proofs.Common.{Some}
-use Rattle.state.proofs.Questions.{asked}
+use Rattle.state.proofs.Questions.{asked, stored_ok}
 use Rattle.queries.specs.Products.{z_of, restricted, product_of}
 use Rattle.queries.proofs.One.{entry_alone, alone-value, pfaffian-two}
 use Rattle.signs.specs.Paulis.{float, expectation}
 use Rattle.signs.specs.Majoranas.{gamma, paired, zs, DistinctModes}
 use Rattle.signs.specs.Circuits.{BlockOp, operation, pulled, Within}
-use Rattle.signs.specs.Signs.{run_by, applied_all, Right, AlwaysRight, RightInSlices, StandIn, called, RightByCalls}
+use Rattle.signs.specs.Signs.{run_by, applied_all, Right, AlwaysRight, RightInSlices, StandIn, RightByCalls}
 use Rattle.signs.proofs.Runs.{pulled-paired, run_holds, slice-holds}
 use Rattle.signs.proofs.Steps.{Holds, get-is}
 use Rattle.signs.proofs.ZProducts.{z-product}
@@ -70,14 +66,6 @@ signs-in-slices n xs s within room =
 -- ---- a call of `apply` is the operation that it reads, applied
 
 module _ (n : ℕ) (modes : List ℕ) where
-  -- question 16 asks of a slice only how long it is
-  still-ok : (s s₀ : List Float) → length s ≡ length s₀ → state_ok n s₀ modes ≡ true → state_ok n s modes ≡ true
-  unfolding state_ok
-  still-ok s s₀ e ok = ap (λ (k : ℕ). leb n max_qubits && (leb (state_places (dim_of n)) k && is_permutation n modes)) e ∙ ok
-
-  stored_ok : (t : State) (s : List Float) → state_ok n s modes ≡ true → state_ok n (stored (dim_of n) t s) modes ≡ true
-  stored_ok t s ok = still-ok (stored (dim_of n) t s) s (stored_is (dim_of n) s t (stored (dim_of n) t s) (asked n s modes ok).room refl).long ok
-
   call-applies : (x : BlockOp) (op s : List Float) → decode_of n op ≡ Some (operation x) → state_ok n s modes ≡ true
       → apply_state n s modes op ≡ applied n (operation x) s
   unfolding apply_state decoded_state
@@ -85,13 +73,13 @@ module _ (n : ℕ) (modes : List ℕ) where
 
   calls-apply : (xs : List BlockOp) (ops : List (List Float)) (s : List Float) → StandIn n xs ops → state_ok n s modes ≡ true
       → called n modes ops s ≡ applied_all n xs s
-  unfolding called applied_all
+  unfolding in_order
   calls-apply [] [] s h ok = refl
   calls-apply [] (op ∷ ops) s h ok = absurd h
   calls-apply (x ∷ xs) [] s h ok = absurd h
   calls-apply (x ∷ xs) (op ∷ ops) s h ok =
       ap (called n modes ops) (call-applies x op s h.0 ok)
-      ∙ calls-apply xs ops (applied n (operation x) s) h.1 (stored_ok (effect (operation x) (state_at (dim_of n) s)) s ok)
+      ∙ calls-apply xs ops (applied n (operation x) s) h.1 (stored_ok n modes (effect (operation x) (state_at (dim_of n) s)) s ok)
 
 pub signs-by-calls : RightByCalls
 signs-by-calls n xs ops modes s within stand ok =

@@ -7,9 +7,8 @@ use mathlib.Core.Bool.{Bool, true, false, not, xor, ◌&&◌, cond, and-false, a
 use Prim.Native.Nat.{ℕ, ◌+◌, ◌*◌, ◌-◌, ◌≤◌, ◌<◌}
 use native.Mathlib.Omega.{arith}
 use lib.Dec.{eqb}
-use lib.Ieee.{binary64, mul, neg, lt}
+use lib.Ieee.{binary64, mul, lt}
 use borrow.Author.Tests.{le-leb, lt-leb}
-use Rattle.laws.proofs.Zeros.{lt-sign}
 use Rattle.laws.specs.Zeros.{+0, +1, sg, nz}
 use Rattle.laws.specs.Matrix.{Mat}
 use Rattle.laws.specs.Maps.{Local, inside, rows, cols}
@@ -18,6 +17,7 @@ use Rattle.laws.proofs.Maps.{inside-yes, inside-below, inside-above}
 use Rattle.local.specs.State.{State, get}
 use Rattle.local.specs.Det.{odd}
 use Rattle.local.specs.Apply.{later, settled, step}
+use Rattle.local.proofs.Postponing.{left, left-own, below_is, step-signs}
 use Rattle.signs.specs.Paulis.{Str, signed, Value, plus, turn, float, expectation}
 use Rattle.signs.specs.Majoranas.{gamma, paired}
 use Rattle.signs.proofs.Tables.{xor-none}
@@ -199,13 +199,13 @@ module _ (o : Local) (act : Str → Str) (moves : Moves o act) where
     D = h.turned
 
     -- what is postponed after settling
-    abbrev left : ℕ → Bool
-    left i = D i && not (inside o i)
+    abbrev rest : ℕ → Bool
+    rest = left o D
 
     abbrev value : ℕ → ℕ → Value
     value r c = pairing n (F (gamma r)) (F (gamma c))
 
-    settled-are : (r c : ℕ) → r < 2 * n → c < 2 * n → nz (settled o t r c) ≡ float (turn (left r) (turn (left c) (value r c)))
+    settled-are : (r c : ℕ) → r < 2 * n → c < 2 * n → nz (settled o t r c) ≡ float (turn (rest r) (turn (rest c) (value r c)))
     settled-are r c hr hc =
         (λ i. nz (sg (inside o r && low r hr i) (sg (inside o c && low c hc i) (t.m r c))))
         ∙ sg-value (inside o r && D r) (sg (inside o c && D c) (t.m r c)) _
@@ -213,37 +213,18 @@ module _ (o : Local) (act : Str → Str) (moves : Moves o act) where
         ∙ ap float
         (ap (turn (inside o r && D r)) (turn-comm (inside o c && D c) (D r) (turn (D c) (value r c)))
         ∙ part (inside o r) (D r) (turn (inside o c && D c) (turn (D c) (value r c)))
-        ∙ ap (turn (left r)) (part (inside o c) (D c) (value r c)))
+        ∙ ap (turn (rest r)) (part (inside o c) (D c) (value r c)))
       where
         low : (i : ℕ) → i < 2 * n → lt (t.d i) +0 ≡ D i
-        low i l = ap (λ y. lt y +0) (h.signs i l) ∙ lt-sign (D i)
+        low i l = below_is t D i (h.signs i l)
 
-    left-goes : (a : ℕ) → left (goes a) ≡ left a
-    left-goes a = by (look a)
+    rest-goes : (a : ℕ) → rest (goes a) ≡ rest a
+    rest-goes a = by (look a)
       where
-        by : Where a → left (goes a) ≡ left a
-        by (low l) = ap (λ b. left (cond b (o.start + moves.to (a - o.start)) a)) (inside-below o a l)
-        by (mid l k) =
-            ap (λ b. D (goes a) && not b) (goes_in a ∙ inside-yes o a l k) ∙ and-false (D (goes a))
-            ∙ sym (ap (λ b. D a && not b) (inside-yes o a l k) ∙ and-false (D a))
-        by (high l) = ap (λ b. left (cond b (o.start + moves.to (a - o.start)) a)) (inside-above o a l)
-
-    new-signs : (i : ℕ) → i < 2 * n → (step odd o t).d i ≡ sg (xor (left i) (late i)) +1
-    unfolding neg xor
-    new-signs i l =
-        ap (λ y. cond (late i) (neg (cond (inside o i && lt y +0) +1 y)) (cond (inside o i && lt y +0) +1 y)) (h.signs i l)
-        ∙ ap (λ b. cond (late i) (neg (cond (inside o i && b) +1 (sg (D i) +1))) (cond (inside o i && b) +1 (sg (D i) +1))) (lt-sign (D i))
-        ∙ go (D i) (inside o i) (late i)
-      where
-        go : (a b c : Bool) → cond c (neg (cond (b && a) +1 (sg a +1))) (cond (b && a) +1 (sg a +1)) ≡ sg (xor (a && not b) c) +1
-        go false false false = refl
-        go false false true = refl
-        go false true false = refl
-        go false true true = refl
-        go true false false = refl
-        go true false true = refl
-        go true true false = refl
-        go true true true = refl
+        by : Where a → rest (goes a) ≡ rest a
+        by (low l) = ap (λ b. rest (cond b (o.start + moves.to (a - o.start)) a)) (inside-below o a l)
+        by (mid l k) = left-own o D (goes a) (goes_in a ∙ inside-yes o a l k) ∙ sym (left-own o D a (inside-yes o a l k))
+        by (high l) = ap (λ b. rest (cond b (o.start + moves.to (a - o.start)) a)) (inside-above o a l)
 
     -- the operators after the step
     moved_value : (r c : ℕ)
@@ -258,22 +239,22 @@ module _ (o : Local) (act : Str → Str) (moves : Moves o act) where
         ∙ expectation-signed n a (signed b (paired n x y)) ∙ ap (turn a) (expectation-signed n b (paired n x y))
 
     pub step-holds : Holds n (step odd o t) (λ a. F (act (gamma a)))
-    step-holds = record { turned = new; signs = new-signs; entries = new-entries }
+    step-holds = record { turned = new; signs = λ i l. step-signs t D i (h.signs i l) odd o; entries = new-entries }
       where
         new : ℕ → Bool
-        new i = xor (left i) (late i)
+        new i = xor (rest i) (late i)
 
         halfway : ℕ → ℕ → Value
-        halfway r c = turn (turns r) (turn (left (goes r)) (turn (left c) (value (goes r) c)))
+        halfway r c = turn (turns r) (turn (rest (goes r)) (turn (rest c) (value (goes r) c)))
 
         rows' : (r c : ℕ) → r < 2 * n → c < 2 * n → nz (rows o (settled o t) r c) ≡ float (halfway r c)
-        rows' = rows_are (2 * n) room (settled o t) (λ r c. turn (left r) (turn (left c) (value r c))) settled-are
+        rows' = rows_are (2 * n) room (settled o t) (λ r c. turn (rest r) (turn (rest c) (value r c))) settled-are
 
         new-entries : (r c : ℕ) → r < 2 * n → c < 2 * n
             → nz ((step odd o t).m r c) ≡ float (turn (new r) (turn (new c) (pairing n (F (act (gamma r))) (F (act (gamma c))))))
         new-entries r c hr hc =
             cols-are (2 * n) room (rows o (settled o t)) halfway rows' r c hr hc
-            ∙ (λ i. float (turn (turns c) (turn (turns r) (turn (left-goes r i) (turn (left-goes c i) (value (goes r) (goes c)))))))
+            ∙ (λ i. float (turn (turns c) (turn (turns r) (turn (rest-goes r i) (turn (rest-goes c i) (value (goes r) (goes c)))))))
             ∙ ap float
-            (all-signs (turns r) (left r) (late r) (turns c) (left c) (late c) (value (goes r) (goes c))
+            (all-signs (turns r) (rest r) (late r) (turns c) (rest c) (late c) (value (goes r) (goes c))
             ∙ ap (λ v. turn (new r) (turn (new c) v)) (sym (moved_value r c)))

@@ -5,13 +5,14 @@
 -- signs, so an engine that loses a turn, turns its own rows too, does not settle, or turns the next mode only is not right. Assumes nothing.
 -- A public promise rests on this.
 use Rattle.std.specs.Prelude.{◌≡◌, true, Some, List, [], ◌∷◌, ℕ, ◌*◌, ◌≤◌, ◌<◌, length, Float}
+use Rattle.laws.specs.Lists.{in_order}
 use Rattle.laws.specs.Zeros.{nz}
 use Rattle.local.specs.Bounds.{state_places}
 use Rattle.local.specs.State.{State, state_at, stored, vacuum, get}
 use Rattle.state.specs.Bounds.{dim_of}
 use Rattle.state.specs.Operation.{applied, decode_of}
 use Rattle.state.specs.Questions.{state_ok}
-use Rattle.state.specs.Calls.{apply_state}
+use Rattle.state.specs.Calls.{called}
 use Rattle.state.specs.declared.operation.Operation.{Operation}
 use Rattle.queries.specs.Products.{product_of}
 use Rattle.signs.specs.Paulis.{float, expectation}
@@ -23,9 +24,8 @@ abbrev pub Engine : Type 0
 Engine = Operation → State → State
 
 -- the operations of a list, in order
-unfoldable pub run_by : Engine → List BlockOp → State → State
-run_by e [] t = t
-run_by e (x ∷ xs) t = run_by e xs (e (operation x) t)
+abbrev pub run_by : Engine → List BlockOp → State → State
+run_by e xs t = in_order (λ x. e (operation x)) xs t
 
 -- a state that is right after the circuit xs on n modes
 pub record Right (n : ℕ) (xs : List BlockOp) (t : State) : Type 0 where
@@ -41,9 +41,8 @@ AlwaysRight e = (n : ℕ) (xs : List BlockOp) → Within n xs → Right n xs (ru
 -- ---- the same in the caller's slice
 
 -- the operations of a list, in order, each applied as `apply` does it
-unfoldable pub applied_all : ℕ → List BlockOp → List Float → List Float
-applied_all n [] s = s
-applied_all n (x ∷ xs) s = applied_all n xs (applied n (operation x) s)
+abbrev pub applied_all : ℕ → List BlockOp → List Float → List Float
+applied_all n xs s = in_order (λ x. applied n (operation x)) xs s
 
 -- a slice that holds a state, with the vacuum put there first
 abbrev pub RightInSlices : Type 0
@@ -58,11 +57,6 @@ StandIn n [] [] = Unit {0}
 StandIn n [] (op ∷ ops) = ⊥
 StandIn n (x ∷ xs) [] = ⊥
 StandIn n (x ∷ xs) (op ∷ ops) = (decode_of n op ≡ Some (operation x)) × StandIn n xs ops
-
--- the state slice after a call of `apply` for each
-unfoldable pub called : ℕ → List ℕ → List (List Float) → List Float → List Float
-called n modes [] s = s
-called n modes (op ∷ ops) s = called n modes ops (apply_state n s modes op)
 
 -- the caller's slice and mode table pass question 16
 abbrev pub RightByCalls : Type 0

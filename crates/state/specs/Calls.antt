@@ -1,5 +1,6 @@
 -- What `apply` answers, by its questions in order, and what it leaves in the state slice. Definitions only. A public promise rests on this.
 use Rattle.std.specs.Prelude.{ℕ, cond, List, Option, Some, None, Float}
+use Rattle.laws.specs.Lists.{in_order}
 use Rattle.laws.specs.Zeros.{+0}
 use Rattle.state.specs.Operation.{decode_of, applied}
 use Rattle.state.specs.Questions.{state_ok}
@@ -22,3 +23,7 @@ apply_answer n s modes op = cond (state_ok n s modes) (decoded_answer (decode_of
 
 unfoldable pub apply_state : ℕ → List Float → List ℕ → List Float → List Float
 apply_state n s modes op = cond (state_ok n s modes) (decoded_state n s (decode_of n op)) s
+
+-- the state slice after a call for each of the operations' slices
+abbrev pub called : ℕ → List ℕ → List (List Float) → List Float → List Float
+called n modes ops s = in_order (λ op s. apply_state n s modes op) ops s
