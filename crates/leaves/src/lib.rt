@@ -1,7 +1,6 @@
-// The leaves as a static library, for timing and comparison from C and Rust (bench/). A matrix is 8
-// or 32 floats, row by row, real before imaginary. A slice that is too short reads as zeros, and
-// nothing is written to one. C names each size and each function by itself, and passes the
-// slices one by one.
+// The leaves, and the plain engine, as a static library, for timing and comparison from C and Rust (bench/). A matrix is 8 or 32 floats,
+// row by row, real before imaginary. A slice that is too short reads as zeros, and nothing is written to one. C names each size and each
+// function by itself, and passes the slices one by one. The plain engine has real entries, and turns down what is too short for it.
 
 #![tactic(auto, unfolding(crate::specs::Slices::first2_of, crate::specs::Slices::first4_of, crate::specs::Slices::put2_of, crate::specs::Slices::put4_of))]
 
@@ -14,12 +13,14 @@ ghost use Rattle.num.specs.Bits.{bits_of};
 ghost use Rattle.gate.specs.Matrix.{mul2_of, dag2_of, kron_of, mul4_of, dag4_of, mat4_swap_qubits_of};
 ghost use Rattle.majorana.specs.Majorana.{majorana_map1_of, majorana_map2_of};
 ghost use Rattle.classify.specs.Classify.{classify2_of, residual_of, code_of};
+ghost use Rattle.plain.specs.Calls.{plain_answer, plain_matrix};
 ghost use Rattle.leaves.specs.Slices.{first_of, first2_of, first4_of, put_of, put2_of, put4_of};
 ghost use Rattle.leaves.specs.Classes.{flat2_of, joined_of, flat4_of};
 
 use gate::{Complex, Mat2, Mat4, Matrix, Row2, Row4};
 use majorana::Mapped;
 use real::{Map2, Map4, Real4};
+use state::Told;
 
 #[unsafe(no_mangle)]
 pub extern "C" fn leaf_sqrt(x: f64) -> f64
@@ -221,4 +222,13 @@ pub extern "C" fn leaf_class_residual(relabel: bool, tol: f64, u: &[f64]) -> f64
 {
     let c = classify::classify2(relabel, tol, first(u));
     c.kind.residual()
+}
+
+// The plain engine's `apply`: the number of its refusal, or 0.
+#[unsafe(no_mangle)]
+pub extern "C" fn leaf_plain_apply(n: usize, matrix: &mut [f64], op: &[f64]) -> u64
+    ensures number { result ≡ (plain_answer n matrix.old op.now).number }
+    ensures matrix { matrix.new ≡ plain_matrix n matrix.old op.now }
+{
+    Told::from(plain::apply(n, matrix, op)).number
 }

@@ -15,3 +15,8 @@ mod signs; // the signs d settled and turned
 // for `state`, which meets what they require
 pub use local::{apply_local2, apply_local4};
 pub use signed::Signed;
+// for `plain`, which does the same without postponed signs
+pub use both::both2;
+pub use columns::both4;
+pub use det::{det2, det4};
+pub use signs::negate_all;

@@ -156,7 +156,8 @@ pub fn settle4(t: &mut Signed, s: usize)
     }
 }
 
-fn negate_all(v: &mut [f64])
+// Each float of a slice is negated: signs here, part of a row in crate `plain`.
+pub fn negate_all(v: &mut [f64])
     ensures { v.new ≡ map neg v.old }
 {
     for x in v.iter_mut() {

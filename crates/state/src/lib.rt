@@ -20,3 +20,4 @@ pub use told::Told;
 // for the crates above, which meet what they require
 pub use application::apply_places;
 pub use checked::Checked;
+pub use operation::{Operation, decode};

@@ -1,0 +1,4 @@
+-- Laws on the definitions of `plain`. Assumes nothing.
+mod Turning
+mod Stepping
+pub mod Room
