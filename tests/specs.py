@@ -1,7 +1,7 @@
 #!/usr/bin/env python3
 """What a reader must believe: each file of specs/ says in its first lines whether a public promise rests on it, and none reaches into proofs.
 
-Roots are the contracts of the calls for users and the pages of the two theorems; a definition rests on those that it speaks of. `--fix` writes the
+Roots are the contracts of the calls for users and the pages of the theorems; a definition rests on those that it speaks of. `--fix` writes the
 sentences; otherwise a wrong or missing one is an error. Needs Python 3 and nothing else."""
 import glob
 import os
@@ -22,7 +22,7 @@ CALLS = {
     "text": ["print_tape"],
     "engine": None,
 }
-THEOREMS = [("engines", "Engines"), ("signs", "Signs"), ("signs", "Engines")]
+THEOREMS = [("engines", "Engines"), ("signs", "Signs"), ("signs", "Engines"), ("postponed", "Beside"), ("postponed", "Engines"), ("queries", "Draws")]
 
 USE = re.compile(r"^(?:ghost )?use Rattle\.([a-z_0-9]+)\.(specs|proofs)\.([A-Za-z0-9_.-]+?)(?:\.\{([^}]*)\}| as (\S+))?;?$")
 CALL = re.compile(r"^pub (?:extern \"C\" )?fn ([a-z_0-9]+)\(.*?^\{$", re.M | re.S)

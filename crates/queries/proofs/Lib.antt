@@ -8,5 +8,6 @@ pub mod Same
 pub mod Indices
 pub mod One
 pub mod Rows
+pub mod Draws
 pub mod Apart
 pub mod Edges

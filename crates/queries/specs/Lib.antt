@@ -6,5 +6,6 @@ pub mod Marginals
 pub mod Basis
 pub mod Samples
 pub mod Calls
+pub mod Draws
 -- of its inner functions
 pub mod Inner
