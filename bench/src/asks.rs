@@ -92,6 +92,19 @@ pub fn equal(query: &Query, original: &Answer, port: &Answer) -> bool {
     }
 }
 
+/// Whether two answers of the port are the same in every bit, with one row; the zeros of a product are one.
+pub fn equal_but_zeros(query: &Query, a: &Answer, b: &Answer) -> bool {
+    match (query, a, b) {
+        (Query::Product(_), Answer::Value(x, row), Answer::Value(y, told)) => {
+            row == told && same(x + 0.0, y + 0.0)
+        }
+        (_, Answer::Value(x, row), Answer::Value(y, told)) => row == told && same(*x, *y),
+        (_, Answer::Shots(x), Answer::Shots(y)) => x == y,
+        (_, Answer::Refused(a, b), Answer::Refused(c, d)) => (a, b) == (c, d),
+        _ => false,
+    }
+}
+
 /// Whether two answers differ by at most `CLOSE`, whatever their rows.
 pub fn close(original: &Answer, port: &Answer) -> bool {
     match (original, port) {

@@ -3,7 +3,7 @@
 use crate::inputs::{any, block, matrix, root, BLOCKS, KINDS};
 use crate::original_side::{self as rust, mat2, mat4, Flat2, Flat4, FLAT2, FLAT4};
 use crate::port::*;
-use oracle::bits::{same, texts};
+use oracle::bits::{all_same, texts};
 use oracle::rng::Rng;
 use oracle::tape::entries;
 use original::access::detect::access as detect;
@@ -28,8 +28,7 @@ impl Tally {
 
     /// Counts one call; the first that differs is printed.
     pub fn add(&mut self, operands: &[&[f64]], want: &[f64], got: &[f64]) {
-        let well = want.len() == got.len() && want.iter().zip(got).all(|(&w, &g)| same(w, g));
-        self.count(well, || {
+        self.count(all_same(want, got), || {
             let operands = texts(&operands.concat());
             format!("{operands}\n  original{}\n  port    {}", texts(want), texts(got))
         });

@@ -14,6 +14,7 @@ pub mod jozkeral;
 mod lent;
 mod original_side;
 mod pieces;
+pub mod plain;
 pub mod plot;
 mod port;
 mod rows;

@@ -1,6 +1,6 @@
-//! The program `bench`: original and port in one process.
+//! The program `bench`: original and port in one process, and the engine beside the plain one.
 
-use bench::{callgrind, compare, compile, counts, growth, plot, runs, times};
+use bench::{callgrind, compare, compile, counts, growth, plain, plot, runs, times};
 use oracle::rng::Rng;
 use std::process::ExitCode;
 
@@ -8,10 +8,12 @@ const USAGE: &str = "\
 bench compare ROOTS OTHERS  compares ROOTS square roots and OTHERS calls of each other function
 bench compile LISTS         compares the answers of compile to LISTS random lists of each family
 bench runs LISTS            compares whole runs and queries: LISTS random lists of each family, all short lists, damaged tapes
+bench plain LISTS           compares the engine with the plain one: LISTS random lists of operations of each family
 bench time                  the table of times
 bench time compile          the lines for compile alone
 bench time compile PART     those whose name has this part, with the heap as it is in a new process
 bench time run              the lines for whole runs alone
+bench time plain            those of the plain engine beside the engine
 bench count                 makes the calls that callgrind counts (bench/count.sh runs it)
 bench counted FILE RECORD   the table of the counts in callgrind's FILE; fails if one of the port's is more than 5 % above RECORD's
 bench record FILE           the counts in callgrind's FILE as lines of a record
@@ -36,6 +38,10 @@ fn main() -> ExitCode {
             Ok(lists) => end(runs::compare(&mut Rng::new(SEED), lists)),
             _ => usage(),
         },
+        ["plain", lists] => match lists.parse() {
+            Ok(lists) => end(plain::compare(&mut Rng::new(SEED), lists)),
+            _ => usage(),
+        },
         ["time", ..] => time(&words[1..]),
         ["count" | "counted" | "record" | "growth", ..] => count(&words),
         _ => usage(),
@@ -49,10 +55,12 @@ fn time(words: &[&str]) -> ExitCode {
             times::small(SEED);
             times::compiles(SEED);
             times::runs(SEED);
+            times::plain(SEED);
         }
         ["compile"] => times::compiles(SEED),
         ["compile", part] => times::cold(SEED, part),
         ["run"] => times::runs(SEED),
+        ["plain"] => times::plain(SEED),
         _ => return usage(),
     }
     ExitCode::SUCCESS

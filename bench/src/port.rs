@@ -1,5 +1,5 @@
-//! The port's leaf functions: the C symbols of libleaves.a. A slice passes as a
-//! pointer and a length; nothing is written to one that is too short.
+//! The port's leaf functions, and the plain engine: the C symbols of libleaves.a. A slice passes as a pointer and a length; nothing is written to
+//! one that is too short, and the plain engine refuses such a slice.
 
 /// A function of two matrices.
 pub type Of2 = unsafe extern "C" fn(*const f64, usize, *const f64, usize, *mut f64, usize);
@@ -56,6 +56,7 @@ extern "C" {
         outn: usize,
     ) -> u32;
     fn leaf_class_residual(relabel: bool, tol: f64, u: *const f64, un: usize) -> f64;
+    fn leaf_plain_apply(n: usize, matrix: *mut f64, mn: usize, op: *const f64, on: usize) -> u64;
 }
 
 /// Calls a function of two matrices on slices.
@@ -80,4 +81,10 @@ pub fn classify2(relabel: bool, tol: f64, u: &[f64], out: &mut [f64]) -> u32 {
 pub fn class_residual(relabel: bool, tol: f64, u: &[f64]) -> f64 {
     // SAFETY: the pointer comes with the length of its slice.
     unsafe { leaf_class_residual(relabel, tol, u.as_ptr(), u.len()) }
+}
+
+/// The plain engine's `apply`: the number of its refusal, or 0.
+pub fn plain_apply(n: usize, matrix: &mut [f64], op: &[f64]) -> u64 {
+    // SAFETY: each pointer comes with the length of its slice, and the two do not overlap.
+    unsafe { leaf_plain_apply(n, matrix.as_mut_ptr(), matrix.len(), op.as_ptr(), op.len()) }
 }

@@ -1,7 +1,8 @@
 //! The tables of times.
 
 use crate::clock::{times, Times};
-use crate::pieces::{calls, leaves, tapes, Piece};
+use crate::pieces::{calls, leaves, plain, tapes, Piece};
+use crate::rows::Row;
 use oracle::rng::Rng;
 use std::hint::black_box;
 
@@ -46,6 +47,22 @@ pub fn runs(seed: u64) {
     warm_heap();
     head();
     tapes::runs(&mut Rng::new(seed), &mut |piece| times(ROUNDS, piece).print());
+}
+
+/// Lists of operations by the engine and by the plain one; then for each what postponing the turns gains.
+pub fn plain(seed: u64) {
+    head();
+    let mut all = Vec::new();
+    plain::pieces(&mut Rng::new(seed), &mut |piece| {
+        let times = times(ROUNDS, piece);
+        times.print();
+        all.push(times);
+    });
+    for pair in all.chunks_exact(2) {
+        let over = |row: fn(&Times) -> &Row| row(&pair[1]).sides[1] / row(&pair[0]).sides[1];
+        let [median, least] = [over(|times| &times.median), over(|times| &times.least)];
+        println!("{:<36} {median:>32.2} {least:>35.2}", format!("gain, {}", pair[0].median.name));
+    }
 }
 
 /// The original takes vectors from the heap. Once a large block was freed, the allocator no longer gives pages back after each

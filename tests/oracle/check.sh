@@ -1,7 +1,8 @@
 #!/bin/sh
-# Builds the oracle and checks it: the two module trees agree, the original
-# agrees with a state vector on the edge cases and on COUNT random lists of each
-# family (4000 if it is not given), and the stored lists are what it gives.
+# Builds the oracle and checks it: the two module trees agree, the plain engine
+# agrees with the original, the original agrees with a state vector on the edge
+# cases and on COUNT random lists of each family (4000 if it is not given), and
+# the stored lists are what it gives.
 #   tests/oracle/check.sh ORIGINAL_DIR [COUNT]
 set -eu
 ROOT=$(cd "$(dirname "$0")/../.." && pwd)
@@ -27,7 +28,7 @@ done
 for list in gates given phases; do
     "$ORACLE" classify "$list" | cmp - "$ROOT/crates/replay_classify/data/$list.bin"
 done
-for list in signs applies queries edges samples stops; do
+for list in signs applies queries edges samples stops plain; do
     "$ORACLE" state "$list" | cmp - "$ROOT/crates/replay_state/data/$list.bin"
 done
 for list in edges register signs mixed; do
@@ -37,4 +38,4 @@ for tape in cut long most over; do
     "$ORACLE" print "$tape" | cmp - "$ROOT/crates/replay_print/data/$tape.bin"
 done
 "$ORACLE" printed | cmp - "$ROOT/crates/replay_print/stdout"
-echo "the stored lists are what the original gives"
+echo "the stored lists are what the oracle gives"

@@ -2,6 +2,7 @@
 
 pub mod calls;
 pub mod leaves;
+pub mod plain;
 pub mod tapes;
 
 /// One pass of a side: all calls of a piece, one after the other.

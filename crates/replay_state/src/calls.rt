@@ -9,6 +9,7 @@ pub enum Call {
     Apply,
     Holds, // what the state's slice must be now
     Asked(Query),
+    Matrix, // what the plain engine's matrix must be now
 }
 
 impl Tag for Call {
@@ -17,6 +18,7 @@ impl Tag for Call {
             1 => Some(Call::State),
             2 => Some(Call::Apply),
             3 => Some(Call::Holds),
+            8 => Some(Call::Matrix),
             tag => Some(Call::Asked(Query::of(tag)?)),
         }
     }

@@ -1,7 +1,8 @@
-// The state that calls are on.
+// The state that calls are on, and the plain engine's matrix beside it.
 use arrayvec::ArrayVec;
 use laws::OP_PLACES;
-use stored::values::{Stored, compare, list};
+use state::Told;
+use stored::values::{Stored, Word, compare, list};
 use stored::words::{Plain, Words, size};
 use stored_queries::asked::{Query, State, Widths};
 
@@ -18,12 +19,26 @@ const WIDTHS: Widths = Widths {
     output: 16,
 };
 
-// A state's n, its slice and its mode table.
+// A state's n, its slice and its mode table; and the plain engine's slice, which starts as the state's, with what it was then: in a list that has operations
+// for both, the state's signs are all 1.0 there.
 #[derive(Drop)]
 pub struct Held {
     n: usize,
     entries: ArrayVec<f64, PLACES>,
     modes: ArrayVec<u16, QUBITS>,
+    plain: ArrayVec<f64, PLACES>,
+    first: ArrayVec<f64, PLACES>,
+}
+
+// An operation's places, some of which may not be lent, and how many are.
+fn operation(words: &mut Plain) -> Option<([f64; OPERATION], usize)> {
+    let length = size(words)?;
+    Some((list(words)?, length))
+}
+
+// Whether two entries are the same, zeros of either sign being one, since -0.0 + 0.0 is 0.0, and all NaNs, which have one word.
+fn is_same_entry(a: f64, b: f64) -> bool {
+    (a + 0.0).word() == (b + 0.0).word()
 }
 
 impl Held {
@@ -37,24 +52,38 @@ impl Held {
             n,
             entries: ArrayVec::new(),
             modes: ArrayVec::new(),
+            plain: ArrayVec::new(),
+            first: ArrayVec::new(),
         };
         held.modes.try_extend_from_slice(table.get(..listed)?).ok()?;
         for _ in 0..length {
             held.entries.try_push(f64::read(words).unwrap_or(0.0)).ok()?;
         }
+        let entries = held.entries.as_slice();
+        held.plain.try_extend_from_slice(entries).ok()?;
+        held.first.try_extend_from_slice(entries).ok()?;
         Some(held)
     }
 
     // Whether an operation's answer agrees: it has a number and a place.
     pub fn apply(&mut self, words: &mut Plain) -> Option<bool> {
-        let length = size(words)?;
-        let places: [f64; OPERATION] = list(words)?;
-        let operation = places.get(..length)?;
-        let told = state::Told::from(state::apply(
+        let (places, length) = operation(words)?;
+        let told = Told::from(state::apply(
             self.n,
             self.entries.as_mut_slice(),
             self.modes.as_slice(),
-            operation,
+            places.get(..length)?,
+        ));
+        Some(compare(&[told.number, told.place], words).is_ok())
+    }
+
+    // The same of the plain engine.
+    pub fn apply_plain(&mut self, words: &mut Plain) -> Option<bool> {
+        let (places, length) = operation(words)?;
+        let told = Told::from(plain::apply(
+            self.n,
+            self.plain.as_mut_slice(),
+            places.get(..length)?,
         ));
         Some(compare(&[told.number, told.place], words).is_ok())
     }
@@ -71,5 +100,39 @@ impl Held {
             modes: self.modes.as_slice(),
         };
         query.agrees(state, WIDTHS, words)
+    }
+
+    // Operators, and entries of the covariance.
+    fn sizes(&self) -> Option<(usize, usize)> {
+        let dim = self.n.checked_mul(2)?;
+        Some((dim, dim.checked_mul(dim)?))
+    }
+
+    // Whether the plain engine's matrix is what the words are, and what lies behind it is as it was.
+    pub fn is_matrix(&self, words: &mut Plain) -> Option<bool> {
+        let (_, places) = self.sizes()?;
+        let (matrix, behind) = self.plain.split_at_checked(places)?;
+        let (_, first) = self.first.split_at_checked(places)?;
+        let kept = behind.iter().zip(first).all(|(x, y)| x.word() == y.word());
+        Some(compare(matrix, words).is_ok() && kept)
+    }
+
+    // Whether the engine's covariance, m times the sign of the row and then that of the column, is the plain engine's matrix.
+    pub fn is_covariance(&self) -> Option<bool> {
+        let (dim, places) = self.sizes()?;
+        let (m, rest) = self.entries.split_at_checked(places)?;
+        let signs = rest.get(..dim)?;
+        let matrix = self.plain.get(..places)?;
+        let rows = m
+            .chunks_exact(dim.max(1))
+            .zip(matrix.chunks_exact(dim.max(1)));
+        Some(
+            rows.zip(signs).all(|((row, other), sign)| {
+                row.iter()
+                    .zip(other)
+                    .zip(signs)
+                    .all(|((x, y), d)| is_same_entry(*x * *sign * *d, *y))
+            }),
+        )
     }
 }

@@ -17,6 +17,11 @@ pub fn same(a: f64, b: f64) -> bool {
     word(a) == word(b)
 }
 
+/// Whether all floats of two lists have the same bits, or are both NaN.
+pub fn all_same(a: &[f64], b: &[f64]) -> bool {
+    a.len() == b.len() && a.iter().zip(b).all(|(&a, &b)| same(a, b))
+}
+
 /// The text of a float: 16 hexadecimal digits, or `nan`.
 pub fn text(x: f64) -> String {
     if x.is_nan() {

@@ -13,6 +13,7 @@ pub mod gate_text;
 pub mod layout;
 pub mod leaves;
 pub mod list;
+pub mod plain;
 pub mod printed;
 pub mod query;
 pub mod reader;

@@ -4,8 +4,8 @@ use oracle::families::FAMILIES;
 use oracle::list::{parse_many, List, SEPARATOR};
 use oracle::rng::Rng;
 use oracle::{
-    check, classify, compiled, families, fused, leaves, printed, run, runs, selftest, state_lists,
-    stored_tapes, tape,
+    check, classify, compiled, families, fused, leaves, plain, printed, run, runs, selftest,
+    state_lists, stored_tapes, tape,
 };
 use std::io::{self, BufWriter, Read, Write};
 use std::process::ExitCode;
@@ -16,7 +16,7 @@ oracle tape FILE OUT             the tape of FILE's gate list to OUT (several li
 oracle random SEED COUNT FAMILY  random gate lists to standard output
 oracle families                  the names of the families
 oracle vector FILE               the answers beside those of a state vector
-oracle selftest SEED COUNT       the module trees beside each other, COUNT lists a family
+oracle selftest SEED COUNT       the module trees beside each other, and the plain engine beside the original: COUNT lists a family
 oracle reader FILE ..            the plain reader of tapes beside the stored answers of the one in Python
 oracle leaves [products]         the stored list of leaf results, or its second part, in binary
 oracle fuse LIST                 the stored list LIST of tapes and their items, in binary: cuts, mixed, angled or ties
@@ -26,7 +26,7 @@ oracle classify LIST             the stored list LIST of blocks and their classe
 oracle runs LIST [SEED]          the stored list LIST of whole runs and queries, in binary: edges, register, signs or mixed;
                                  with a seed that is not 0 one of other random tapes
 oracle state LIST                the stored list LIST of states and calls on them, in binary: signs, applies, queries,
-                                 edges, samples or stops
+                                 edges, samples, stops or plain
 oracle print TAPE                the stored tape TAPE of the printing programs: cut, long, most or over
 oracle printed                   what must be printed of these tapes";
 
@@ -116,9 +116,12 @@ fn selftest(seed: u64, count: usize) -> Result<bool, String> {
     println!("list texts: {} read back, {} differ", out.compared, out.texts_differ);
     let [calls, stops, rows_differ] = selftest::rows(seed, ROWS * count);
     println!("rows: {calls} calls compared, {stops} of them stop, {rows_differ} differ");
+    let plain = plain::beside::beside(seed, count);
+    println!("plain engine: {plain}");
     let tape = selftest::tape_is_right();
     println!("known tape: {}", if tape { "right" } else { "wrong" });
-    Ok(out.trees_differ + out.texts_differ + rows_differ == 0 && stops > 0 && tape)
+    let differ = out.trees_differ + out.texts_differ + rows_differ + plain.differ;
+    Ok(differ == 0 && stops > 0 && 2 * plain.turning > plain.lists && tape)
 }
 
 fn reader(files: &[&str]) -> Result<bool, String> {

@@ -1,5 +1,5 @@
-//! The engine's `apply` written again, with a fault of the signs if one is
-//! asked for: what a stored tape must show.
+//! The engine's `apply` written again, with a fault of the signs if one is asked for: what a stored tape must show, and what `bench plain` must
+//! tell apart.
 
 use crate::layout::{kind, OP_PLACES};
 use original::access::state::access::det;
@@ -29,6 +29,16 @@ pub fn z(n: usize, ops: &[f64], fault: Fault) -> Vec<f64> {
         state.apply(k, op, fault);
     }
     (0..n).map(|mode| state.entry(2 * mode, 2 * mode + 1)).collect()
+}
+
+/// The covariance after each of the operations, by rows. They pass 17, and none is an interaction.
+pub fn along(n: usize, ops: &[Vec<f64>], fault: Fault) -> Vec<Vec<f64>> {
+    let mut state = State::vacuum(n);
+    let after = |(k, op): (usize, &Vec<f64>)| {
+        state.apply(k, &op[..OP_PLACES], fault);
+        state.covariance()
+    };
+    ops.iter().enumerate().map(after).collect()
 }
 
 /// The operations that turn later modes.
@@ -71,6 +81,10 @@ impl State {
 
     fn entry(&self, a: usize, b: usize) -> f64 {
         self.m[a][b] * self.d[a] * self.d[b]
+    }
+
+    fn covariance(&self) -> Vec<f64> {
+        (0..self.dim * self.dim).map(|k| self.entry(k / self.dim, k % self.dim)).collect()
     }
 
     fn apply(&mut self, k: usize, op: &[f64], fault: Fault) {

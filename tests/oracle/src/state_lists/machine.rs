@@ -134,15 +134,32 @@ impl Machine {
         }
     }
 
-    /// `apply`: the length of the operation, its places, number and place; then the state's slice as it is now.
+    /// `apply`, then the state's slice as it is now.
     pub fn apply(&mut self, op: &[f64]) {
+        self.put(op);
+        self.holds();
+    }
+
+    /// `apply`: the length of the operation, its places, number and place. Gives the number.
+    pub fn put(&mut self, op: &[f64]) -> u64 {
         let number = self.step(op);
         let mut words = vec![op.len() as u64];
         words.extend((0..OP).map(|i| word(op.get(i).copied().unwrap_or(0.0))));
         words.extend([number, 0]);
         self.record(tag::APPLY, &words);
+        number
+    }
+
+    /// The state's slice as it is now.
+    pub fn holds(&mut self) {
         let words: Vec<u64> = self.slice.iter().map(|&x| word(x)).collect();
         self.record(tag::HOLDS, &words);
+    }
+
+    /// The plain engine's matrix as it must be now.
+    pub fn plain(&mut self, entries: &[f64]) {
+        let words: Vec<u64> = entries.iter().map(|&x| word(x)).collect();
+        self.record(tag::PLAIN, &words);
     }
 
     /// Applies an operation, or gives the number of the refusal.

@@ -4,6 +4,7 @@
 
 mod applies;
 pub mod machine;
+mod plain;
 mod queries;
 mod samples;
 mod signs;
@@ -22,6 +23,7 @@ pub mod tag {
     pub const MARGINAL: u64 = 5;
     pub const PROBABILITY: u64 = 6;
     pub const SAMPLE: u64 = 7;
+    pub const PLAIN: u64 = 8;
 }
 
 /// The list of a name.
@@ -34,9 +36,10 @@ pub fn list(name: &str) -> Result<Vec<u8>, String> {
         "edges" => queries::add_edges(&mut machine),
         "samples" => samples::add(&mut machine),
         "stops" => stops::add(&mut machine),
+        "plain" => plain::add(&mut machine),
         _ => {
             return Err(format!(
-                "there is no list `{name}`: signs, applies, queries, edges, samples or stops"
+                "there is no list `{name}`: signs, applies, queries, edges, samples, stops or plain"
             ))
         }
     }
@@ -91,7 +94,7 @@ fn any_modes(rng: &mut Rng, n: usize) -> Vec<u16> {
 }
 
 /// The places of an operation: kind, mode, numbers.
-fn op(kind: f64, mode: f64, numbers: &[f64]) -> Vec<f64> {
+pub fn op(kind: f64, mode: f64, numbers: &[f64]) -> Vec<f64> {
     let mut out = vec![kind, mode];
     out.extend(numbers);
     out.resize(OP_PLACES, 0.0);

@@ -57,6 +57,12 @@ fn cases() -> Vec<(&'static str, usize, Vec<Step>)> {
     ]
 }
 
+/// The cases: number of modes, and the places of each operation.
+pub fn lists() -> Vec<(usize, Vec<Vec<f64>>)> {
+    let all = |steps: Vec<Step>| steps.into_iter().map(|(mode, map)| places(mode, map)).collect();
+    cases().into_iter().map(|(_, n, steps)| (n, all(steps))).collect()
+}
+
 pub fn add(machine: &mut Machine) {
     for (name, n, steps) in cases() {
         for lost in (0..steps.len()).filter(|&k| odd(&steps[k], n)) {
