@@ -26,6 +26,7 @@ BOXES = {
     "tape": (20, 470, 138, "tape: parse", ["gates-good, gates-few,", "parse-prefix"], "tape/proofs/*.antt"),
     "classify": (168, 470, 138, "classes", ["angled-is,", "rotation-is-map"], "classify/proofs/*.antt"),
     "num": (316, 470, 138, "numbers", ["root_is, root-unique,", "sqrt-max"], "num/proofs/*.antt"),
+    "draws": (464, 355, 138, "a shot's own draws", ["own-draws"], "queries/proofs/Draws.antt"),
     # promise 4
     "signs": (640, 50, 145, "Promise 4: the signs", ["signs, signs-in-slices,", "signs-by-calls"], "signs/proofs/Signs.antt"),
     "lost": (795, 50, 145, "four lost turns", ["refused, own-effect,", "own-answers"], "signs/proofs/Refused.antt"),
@@ -35,6 +36,8 @@ BOXES = {
     "odd": (795, 260, 145, "who turns", ["float-odd, later"], "signs/proofs/*.antt"),
     "row": (640, 360, 145, "bytes to parity", ["sign-row"], "rows/proofs/SignRun.antt"),
     "never": (795, 360, 145, "the same, unturned", ["never-turned"], "rows/proofs/SignRow.antt"),
+    "beside": (640, 445, 145, "beside a plain engine", ["same-by-calls,", "always-same"], "postponed/proofs/*.antt"),
+    "faulty": (795, 445, 145, "false of wrong ones", ["own-same, refused"], "postponed/proofs/Refused.antt"),
     # promise 3
     "ccall": (20, 580, 455, "Promise 3: jozkeral_run, ensures register (CallClaim)", ["claim-told"], "engine/proofs/Claims.antt"),
     "wrong": (485, 580, 455, "Claimed of this engine, false of wrong ones", ["own-claimed, refused, no-room, unanswered"], "engines/proofs/Refused.antt"),
@@ -61,7 +64,7 @@ run calls, compile calls, asks calls, report compile, report run, evolve run, or
 pfaffian asks, classify resolve, tape resolve, num classify,
 claim ccall, claim wrong, accepted claim, answering claim, plain claim, numbered accepted, holds answering, told answering, tables answering, moved holds,
 follows holds, fits moved, fits follows, keeps follows, tapeplain plain,
-signs lost, pulled signs, zprod signs, steps pulled, odd pulled
+signs lost, beside faulty, pfaffian draws, pulled signs, zprod signs, steps pulled, odd pulled
 """
 
 
