@@ -49,7 +49,7 @@ pair_same u v r c to from = by (cases_eq (r % 2) 0) (cases_eq c (r + 1))
 
 module _ (p : ℕ → Bool) (n : ℕ) (l : List ℕ) (up : Ascending p n l) where
   -- no mode is listed twice
-  listed-once : (i j : ℕ) → i < length l → j < length l → get_or l i 0 ≡ get_or l j 0 → i ≡ j
+  pub listed-once : (i j : ℕ) → i < length l → j < length l → get_or l i 0 ≡ get_or l j 0 → i ≡ j
   listed-once i j h g e = by (cases_lt i j) (cases_lt j i)
     where
       by : (i < j) ⊎ (j ≤ i) → (j < i) ⊎ (i ≤ j) → i ≡ j

@@ -18,7 +18,7 @@ use Rattle.laws.specs.Matrix.{Mat}
 use Rattle.laws.proofs.Integers.{abs-sign}
 use Rattle.monomial.specs.Monomial.{flip}
 use Rattle.state.specs.Questions.{state_ok}
-use Rattle.state.specs.Answers.{accepted, refused}
+use Rattle.state.specs.Answers.{Told, accepted, refused}
 use Rattle.state.proofs.Permutations.{mode-below}
 use Rattle.queries.specs.Answers.{Number, Answered, without_row, given}
 use Rattle.queries.specs.Lists.{oddly, passing, mode_listed, outside, bad_place, odd_mode, odd_modes}
@@ -73,30 +73,34 @@ module _ (n : ℕ) (b r : ℕ → Bool) (e : Mat) (modes : List ℕ) (h : Reads 
       unit : (s : Bool) → nat_abs (with_sign s 1) ≤ 1
       unit s = rw (abs-sign s 1) (le_refl 1)
 
+-- what an answer to a product query says: its qubits are below n, and its number is the product over the modes left
+module _ (n : ℕ) (s : List Float) (modes qs : List ℕ) (w : List Float) (e : (expectation_z_product_of n s modes qs w).told.number ≡ 0) where
+  abbrev left : List ℕ
+  left = odd_modes n modes qs
+
+  abbrev z : Number
+  z = product_of (covariance_of n s) left
+
+  abbrev Answers : Told → Type 0
+  Answers t = ((j : ℕ) → j < length qs → get_or qs j 0 < n) × (t ≡ accepted z.value)
+
+  pub product-answered : Answers (expectation_z_product_of n s modes qs w).told
+  unfolding expectation_z_product_of worked bad_place
+  product-answered = by (state_ok n s modes) (ltb (bad_place n qs) (length qs)) (work_ok (dim_left left) w) refl e
+    where
+      answer : Bool → Bool → Bool → Answered
+      answer t u v =
+          cond t (cond u (without_row (refused 19 (bad_place n qs))) (cond v (given z) (without_row (refused 20 0)))) (without_row (refused 16 0))
+
+      by : (t u v : Bool) → ltb (bad_place n qs) (length qs) ≡ u → (answer t u v).told.number ≡ 0 → Answers (answer t u v).told
+      by true false true f e =
+          (λ j g. leb-false n (get_or qs j 0) (none_passes (outside n qs) (length qs) (ltb-false (bad_place n qs) (length qs) f) j g), refl)
+      by true false false f e = absurd (omega arith)
+      by true true v f e = absurd (omega arith)
+      by false u v f e = absurd (omega arith)
+
 pub product-told : (n : ℕ) (b r : ℕ → Bool) (s : List Float) (modes : List ℕ) → Reads n b r (covariance_of n s) modes → (qs : List ℕ) (w : List Float)
     → (expectation_z_product_of n s modes qs w).told.number ≡ 0 → (expectation_z_product_of n s modes qs w).told ≡ accepted (register_product r qs)
-unfolding expectation_z_product_of worked bad_place
 product-told n b r s modes h qs w e =
-    by (state_ok n s modes) (ltb (bad_place n qs) (length qs)) (work_ok (dim_left l) w) refl e
-  where
-    l : List ℕ
-    l = odd_modes n modes qs
-
-    z : Number
-    z = product_of (covariance_of n s) l
-
-    is : ltb (bad_place n qs) (length qs) ≡ false → z.value ≡ register_product r qs
-    is f =
-        product_is n b r (covariance_of n s) modes h qs (λ j g. leb-false n (get_or qs j 0)
-        (none_passes (outside n qs) (length qs) (ltb-false (bad_place n qs) (length qs) f) j g))
-
-    answer : Bool → Bool → Bool → Answered
-    answer t u v =
-        cond t (cond u (without_row (refused 19 (bad_place n qs))) (cond v (given z) (without_row (refused 20 0)))) (without_row (refused 16 0))
-
-    by : (t u v : Bool) → ltb (bad_place n qs) (length qs) ≡ u
-        → (answer t u v).told.number ≡ 0 → (answer t u v).told ≡ accepted (register_product r qs)
-    by true false true f e = ap accepted (is f)
-    by true false false f e = absurd (omega arith)
-    by true true v f e = absurd (omega arith)
-    by false u v f e = absurd (omega arith)
+    let answered = product-answered n s modes qs w e in
+    answered.1 ∙ ap accepted (product_is n b r (covariance_of n s) modes h qs answered.0)

@@ -6,7 +6,7 @@ use mathlib.Core.List.{List, [], ◌∷◌, ◌++◌}
 use Prim.Native.Nat.{ℕ, ◌<◌, ◌≤◌}
 use lib.ListN.{length}
 use lib.Ieee.{Float}
-use Rattle.laws.specs.Lists.{All}
+use Rattle.laws.specs.Lists.{All, in_order}
 use Rattle.laws.specs.Bounds.{max_qubits}
 use Rattle.gate.specs.declared.matrix.Mat4.{Mat4}
 use Rattle.classify.specs.Diagonal.{interaction_of, unit_of}
@@ -65,7 +65,7 @@ module _ (n : ℕ) (few : n ≤ max_qubits) (pos : ℕ → ℕ) (p : Apart n pos
 
   pub items-hold : (xs : List Item) → All (ItemIs relabel n Q P Still) xs → All (Free tol pos) xs
       → HoldsBits n (modes_run pos xs zeros) (evolved_from n (operations_of pos xs) vacuum)
-  unfolding operations_of modes_run evolved_from
+  unfolding operations_of modes_run in_order
   items-hold [] i f = vacuum-holds n
   items-hold (x ∷ xs) i f =
       let b = modes_run pos xs zeros in

@@ -4,6 +4,7 @@ use mathlib.Core.Bool.{Bool, true, false, not, cond, ◌&&◌, false≢true}
 use mathlib.Core.List.{[], ◌∷◌, ◌++◌}
 use Prim.Native.Nat.{ℕ, ◌<◌, ◌≤◌}
 use Rattle.laws.specs.Bounds.{max_qubits}
+use Rattle.laws.specs.Lists.{in_order}
 use Rattle.laws.specs.Phase.{Phase, i0, ◌⊕◌, minus}
 use Rattle.laws.proofs.Phases.{eq_phase}
 use Rattle.gate.specs.declared.complex.Complex.{Complex}
@@ -47,7 +48,7 @@ diagonal-phased v c h d = by c.swap c.turn_a c.turn_b c.phases h d
 module _ (n : ℕ) (few : n ≤ max_qubits) (b : ℕ → Bool) where
   rotated-holds : (k : ℕ) (z : Complex) (l : Phase) → IsEntry z (unit l) → k < n → (t : State) → HoldsBits n b t
       → HoldsBits n b (evolved_from n (rotated k (rotation_of z)) t)
-  unfolding evolved_from
+  unfolding in_order
   rotated-holds k z l e lk t h =
       subst (λ (r : Option Map2). HoldsBits n b (evolved_from n (rotated k r) t)) (sym (rotation-is z l e)) (by (not (eq_phase l i0)))
     where

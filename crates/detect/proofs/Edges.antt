@@ -85,10 +85,10 @@ block u = mul4_of (kron_of id2 id2) (mul4_of u (kron_of id2 id2))
 classes : (classify2_of false f0 (block gate_i_swap) ≡ class2 (Match f0) false gate_i_swap false)
     × (classify2_of true f0 (block gate_cz) ≡ class2 (Match f0) true (swap4_of gate_cz) true)
     × (classify2_of false f0 (block gate_cz) ≡ class2 Interaction false gate_cz true)
-unfolding largest_root_of majorana0 majorana1 majorana2 majorana3 image4_of trace_row4_of trace4_of coefficient4_of coefficients4_of less_row4_of less4_of rest4_of
-    plus_row4_of square4_of distance4_of map_row4_of map_distance4_of majorana_map2_of kron_row_of kron_of axpy_of row_mul_of mul4_of conj_column_of dag4_of is_zero_of max_of min_of
-    abs_of sqrt_of add sub mul div neg lt le eq of_bits is_nan plus_three_of off_square_of offdiag4_of interaction_of phase_none_of diagonal_of without_phase_of residual2_of
-    swap4_of plain_of fallback_of swapped_of classify2_of
+unfolding largest_root_of majorana0 majorana1 majorana2 majorana3 image4_of trace_row4_of trace4_of coefficient4_of coefficients4_of less_row4_of less4_of
+    rest4_of plus_row4_of square4_of distance4_of map_row4_of map_distance4_of majorana_map2_of kron_row_of kron_of axpy_of row_mul_of mul4_of
+    conj_column_of dag4_of is_zero_of max_of min_of abs_of sqrt_of add sub mul div neg lt le eq of_bits is_nan plus_three_of off_square_of offdiag4_of
+    interaction_of phase_none_of diagonal_of without_phase_of residual2_of swap4_of plain_of fallback_of swapped_of classify2_of
 classes = (refl, refl, refl)
 
 -- the block u of class c on (a, b), alone on n slots
@@ -101,8 +101,8 @@ wholes : (items_of (header 3 2) iswap ≡ alone 3 0 2 gate_i_swap (class2 (Match
     × (items_of (header 3 0) iswap ≡ alone 3 0 2 gate_i_swap (class2 (Match f0) false gate_i_swap false))
     × (items_of (header 2 1) cz ≡ alone 2 0 1 gate_cz (class2 (Match f0) true (swap4_of gate_cz) true))
     × (items_of (header 2 0) cz ≡ alone 2 0 1 gate_cz (class2 Interaction false gate_cz true))
-unfolding items_of labels_of labelled unlabelled up_from fuse_of resolved_of fused compressed resolved until from chosen candidates choose_of all_offers offers_of
-    try_each cuts keep ones ahead prefix_of time_product_from time_product_of start_of
+unfolding items_of labels_of labelled unlabelled up_from fuse_of resolved_of fused compressed resolved until from chosen candidates choose_of all_offers
+    offers_of try_each cuts keep ones ahead prefix_of time_product_from time_product_of start_of
 wholes = (
   ap (alone 3 0 2 gate_i_swap) classes.0,
   ap (alone 3 0 2 gate_i_swap) classes.0,
@@ -110,7 +110,7 @@ wholes = (
   ap (alone 2 0 1 gate_cz) classes.2,
 )
 
-fusing : (h : Header) (gs : List Gate) (x : Fused) → items_of h gs ≡ x → (labels_of h gs).lab ≡ list_of h.n (λ q. q)
+pub fusing : (h : Header) (gs : List Gate) (x : Fused) → items_of h gs ≡ x → (labels_of h gs).lab ≡ list_of h.n (λ q. q)
     → Fusing h gs x.items x.content x.swaps x.angled
 fusing h gs x e l = record {
   items = ap (λ x. x.items) e;
@@ -158,8 +158,8 @@ orders = (
   ap (λ xs. choose_order_of false 2 (match_pairs xs)) fusings.3.items,
 )
 
-module _ (h : Header) (gs : List Gate) (xs : List Item) (content : List ℕ) (swaps : ℕ) (angled : Bool) (a : Arrangement) (f : Fusing h gs xs content swaps angled)
-    (o : order_of h gs ≡ a) where
+module _ (h : Header) (gs : List Gate) (xs : List Item) (content : List ℕ) (swaps : ℕ) (angled : Bool) (a : Arrangement)
+    (f : Fusing h gs xs content swaps angled) (o : order_of h gs ≡ a) where
   -- the report's parts, by the items and the order
   pub tally-is : tape_counts h gs ≡ counts_of h.tolerance (λ w. find w a.order) xs
   unfolding tape_counts
@@ -169,7 +169,8 @@ module _ (h : Header) (gs : List Gate) (xs : List Item) (content : List ℕ) (sw
   unfolding reported_of report_of
   modes-by = λ z. table h.n (λ q. find (get_or (f.wires z) (get_or (f.slots z) q 0) 0) (o z).order)
 
-reporting : (h : Header) (gs : List Gate) (xs : List Item) (content : List ℕ) (swaps : ℕ) (angled : Bool) (a : Arrangement) → Fusing h gs xs content swaps angled → order_of h gs ≡ a
+reporting : (h : Header) (gs : List Gate) (xs : List Item) (content : List ℕ) (swaps : ℕ) (angled : Bool) (a : Arrangement)
+    → Fusing h gs xs content swaps angled → order_of h gs ≡ a
     → let c = counts_of h.tolerance (λ w. find w a.order) xs in
     Reporting h gs c.gaussian c.bad c.nonadjacent c.interactions a.name (take h.n (table h.n (λ k. get_or a.order k 0)))
     (take h.n (table h.n (λ q. find (get_or content (get_or (list_of h.n (λ q. q)) q 0) 0) a.order)))

@@ -1,32 +1,42 @@
 -- A program run on the vacuum (001, `evolve`): its operations in order, each as `apply` decodes its 18 places. Definitions only.
 -- A public promise rests on this.
-use Rattle.std.specs.Prelude.{Option, Some, None, List, [], ◌∷◌, ℕ, zero, suc, take, drop, Float}
-use Rattle.laws.specs.Lists.{All}
+use Rattle.std.specs.Prelude.{Option, Some, None, List, [], ◌∷◌, ℕ, zero, suc, map, take, drop, Float}
+use Rattle.laws.specs.Lists.{All, in_order}
 use Rattle.laws.specs.Bounds.{op_places}
 use Rattle.detect.specs.Operation.{Operation, one, two, interaction, places_of}
 use Rattle.local.specs.State.{State, vacuum}
-use Rattle.state.specs.Operation.{interaction_at, decode_of, effect, Fits}
+use Rattle.state.specs.Operation.{interaction_at, decode_of, effect, Engine, Fits}
 use Rattle.state.specs.declared.operation.Operation as state
 use Rattle.state.specs.declared.operation.Operation.TheVariants.{One, Two}
 
--- what an operation does to the state. One that question 17 would turn down does nothing; a program has none (law `program-fits`)
-unfoldable pub decoded_effect : Option state.Operation → State → State
-decoded_effect (Some o) t = effect o t
-decoded_effect None t = t
+-- what an operation does to the state by the engine e, this one's `effect` or another's. One that question 17 would turn down does nothing; a program has none
+-- (law `program-fits`)
+unfoldable pub decoded_by : Engine → Option state.Operation → State → State
+decoded_by e (Some o) t = e o t
+decoded_by e None t = t
 
--- the operations in order, on n modes
-unfoldable pub evolved_from : ℕ → List Operation → State → State
-evolved_from n [] t = t
-evolved_from n (o ∷ os) t = evolved_from n os (decoded_effect (decode_of n (places_of o)) t)
+-- operations in their places, in order, on n modes
+abbrev pub placed_by : Engine → ℕ → List (List Float) → State → State
+placed_by e n ops t = in_order (λ op. decoded_by e (decode_of n op)) ops t
+
+-- those of a program
+abbrev pub evolved_by : Engine → ℕ → List Operation → State → State
+evolved_by e n os t = placed_by e n (map places_of os) t
+
+abbrev pub evolved_from : ℕ → List Operation → State → State
+evolved_from = evolved_by effect
 
 -- from the vacuum
 abbrev pub evolved : ℕ → List Operation → State
 evolved n os = evolved_from n os vacuum
 
--- the same of the first k operations that a slice holds, 18 places each
-unfoldable pub evolved_in : ℕ → ℕ → List Float → State → State
-evolved_in n zero l t = t
-evolved_in n (suc k) l t = evolved_in n k (drop op_places l) (decoded_effect (decode_of n (take op_places l)) t)
+-- the first k operations that a slice holds, 18 places each
+unfoldable pub held_in : ℕ → List Float → List (List Float)
+held_in zero l = []
+held_in (suc k) l = take op_places l ∷ held_in k (drop op_places l)
+
+abbrev pub evolved_in : ℕ → ℕ → List Float → State → State
+evolved_in n k l t = placed_by effect n (held_in k l) t
 
 -- ---- a program that fits n modes
 

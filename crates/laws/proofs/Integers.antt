@@ -95,7 +95,8 @@ quot-sign s t k n v w N e f = by (eq-zero-or-pos (nat_abs v))
     by (inl o) = ap (with_sign (unlike s t)) o ∙ sign_zero (unlike s t) ∙ sym (sign_zero (sign_of v)) ∙ ap (with_sign (sign_of v)) (sym o) ∙ sign-abs v
     by (inr o) =
         let K : 0 < k = subst (λ (x : ℕ). 0 < x) (sym (quot-size s t k n v w e f)) (mul-pos o N) in
-        let s-is : s ≡ unlike (sign_of v) (sign_of w) = sign-one s (unlike (sign_of v) (sign_of w)) k K (e ∙ mul_is v w ∙ ap (with_sign (unlike (sign_of v) (sign_of w))) (sym k-is)) in
+        let s-is : s ≡ unlike (sign_of v) (sign_of w) =
+        sign-one s (unlike (sign_of v) (sign_of w)) k K (e ∙ mul_is v w ∙ ap (with_sign (unlike (sign_of v) (sign_of w))) (sym k-is)) in
         (λ i. with_sign (unlike (s-is i) (t-is i)) (nat_abs v)) ∙ ap (λ (b : Bool). with_sign b (nat_abs v)) (unlike-twice (sign_of v) (sign_of w)) ∙ sign-abs v
 
 -- ---- quotients
@@ -114,7 +115,10 @@ quot-mul z w r =
     ∙ sign-abs z
   where
     back : nat_abs z / nat_abs w * nat_abs w ≡ nat_abs z
-    back = sym (add-zero (nat_abs z / nat_abs w * nat_abs w)) ∙ ap (λ (x : ℕ). nat_abs z / nat_abs w * nat_abs w + x) (sym r) ∙ div-add-mod' (nat_abs z) (nat_abs w)
+    back =
+        sym (add-zero (nat_abs z / nat_abs w * nat_abs w))
+        ∙ ap (λ (x : ℕ). nat_abs z / nat_abs w * nat_abs w + x) (sym r)
+        ∙ div-add-mod' (nat_abs z) (nat_abs w)
 
 -- ---- differences
 
@@ -130,6 +134,9 @@ sub-lt k (suc l) h =
 
 -- ---- order
 
+pub eqb_comm : (a b : ℕ) → eqb a b ≡ eqb b a
+eqb_comm a b = grind (arith, nat_tests)
+
 lt-or-eq : (a b : ℕ) → (ltb a b || eqb a b) ≡ leb a b
 lt-or-eq a b = grind (arith, nat_tests)
 
@@ -138,6 +145,3 @@ le_is (pos a) (pos b) = lt-or-eq a b
 le_is (pos a) (negsuc b) = refl
 le_is (negsuc a) (pos b) = refl
 le_is (negsuc a) (negsuc b) = ap (λ (t : Bool). ltb b a || t) (eqb_comm a b) ∙ lt-or-eq b a
-  where
-    eqb_comm : (a b : ℕ) → eqb a b ≡ eqb b a
-    eqb_comm a b = grind (arith, nat_tests)

@@ -18,13 +18,13 @@ use Rattle.num.specs.Order.{abs_of}
 use Rattle.local.specs.State.{State, vacuum, get}
 use Rattle.local.specs.Apply.{later}
 use Rattle.local.specs.Det.{odd, det, eliminated, last_largest, better_of, lowered_all, less}
-use Rattle.state.specs.Operation.{effect, Fits}
+use Rattle.state.specs.Operation.{Engine, effect, Fits}
 use Rattle.state.specs.declared.operation.Operation.{Operation}
 use Rattle.state.specs.declared.operation.Operation.TheVariants.{One, Two, Interaction}
 use Rattle.queries.specs.Products.{z_of}
 use Rattle.signs.specs.Paulis.{plus, minus}
 use Rattle.signs.specs.Circuits.{BlockOp, operation, Within}
-use Rattle.signs.specs.Signs.{Engine, run_by}
+use Rattle.signs.specs.Signs.{run_by}
 use Rattle.signs.specs.Engines.{no_turn, own_turn, no_settling, next_turn}
 use Rattle.signs.proofs.Values.{plus≢minus, float_one}
 use Rattle.signs.proofs.Rows.{between, alone0, lower, Answers, fit-between, fit-alone0, fit-lower}

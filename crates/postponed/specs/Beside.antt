@@ -8,9 +8,9 @@ use Rattle.std.specs.Prelude.{◌≡◌, true, List, ℕ, ◌<◌, Float}
 use Rattle.laws.specs.Lists.{All, in_order}
 use Rattle.laws.specs.Zeros.{+1, nz}
 use Rattle.laws.specs.Matrix.{Mat, at, matrix}
-use Rattle.local.specs.State.{State, stored, vacuum, get}
+use Rattle.local.specs.State.{stored, vacuum, get}
 use Rattle.state.specs.Bounds.{dim_of}
-use Rattle.state.specs.Operation.{Fits}
+use Rattle.state.specs.Operation.{Engine, Fits}
 use Rattle.state.specs.Questions.{state_ok}
 use Rattle.state.specs.Calls.{apply_answer, called}
 use Rattle.state.specs.declared.operation.Operation.{Operation}
@@ -27,7 +27,7 @@ SameEntries n e p = (r c : ℕ) → r < dim_of n → c < dim_of n → nz (e r c)
 
 -- an engine and a plain one, by what an operation does to a state and to a matrix: after every list of operations on n modes, from the vacuum, both have the
 -- same covariance. The engine's own is `effect` of crate `state`, the plain one's `plain` of crate `plain`
-abbrev pub AlwaysSame : (Operation → State → State) → (Operation → Mat → Mat) → Type 0
+abbrev pub AlwaysSame : Engine → (Operation → Mat → Mat) → Type 0
 AlwaysSame e p = (n : ℕ) (os : List Operation) → All (Fits n) os → SameEntries n (get (in_order e os vacuum)) (in_order p os vacuum.m)
 
 -- ---- by calls, in the callers' slices

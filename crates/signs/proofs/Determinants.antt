@@ -17,7 +17,7 @@ use Rattle.num.proofs.Alike.{nan-nz, abs-cong}
 use Rattle.local.specs.declared.det.Best.{Best}
 use Rattle.signs.specs.Majoranas.{Four, c0, c1, c2, c3, num₁, num, Row}
 use Rattle.signs.specs.Circuits.{unit_row}
-use Rattle.signs.proofs.Permutations.{row, all_rows₁, all_rows₁→, all_rows, all_rows→, implies, by-implies, differ, distinct, odd₁, odd}
+use Rattle.signs.proofs.Permutations.{row, two_rows₁, two_rows₁→, four_rows, four_rows→, implies, by-implies, differ, distinct, odd₁, odd}
 use Rattle.local.specs.Det.{Line, head_of, tail_of, not_below, better_of, last_largest, pivot_row, put, other_rows, less, lowered_all, eliminated, lines, det}
 
 -- ---- equal up to the sign of a zero: rows, and lists of rows
@@ -195,7 +195,7 @@ matrix r s t u i j = unit_row num (pick r s t u i) j
 abbrev right : Row Four → Row Four → Row Four → Row Four → Bool
 right r s t u = implies (distinct r s t u) (beq (lt (det 4 (matrix r s t u)) +0) (odd r s t u))
 
-every : T (all_rows (λ r. all_rows (λ s. all_rows (λ t. all_rows (right r s t)))))
+every : T (four_rows right)
 unfolding det up_from eliminated last_largest better_of lowered_all less abs_of xor lt le eq is_nan sub add mul div neg
 every = tt
 
@@ -206,7 +206,7 @@ matrix₁ r s (suc i) j = unit_row num₁ s j
 abbrev right₁ : Row Bool → Row Bool → Bool
 right₁ r s = implies (differ num₁ r s) (beq (lt (det 2 (matrix₁ r s)) +0) (odd₁ r s))
 
-every₁ : T (all_rows₁ (λ r. all_rows₁ (right₁ r)))
+every₁ : T (two_rows₁ right₁)
 unfolding det xor lt sub add mul neg
 every₁ = tt
 
@@ -233,7 +233,7 @@ float-odd₁ q rows h d =
     (mul-cong (q 0 1) (q 1 0) (m 0 1) (m 1 0) (h false 1 (lit< tt)) (h true 0 (lit< tt))))
     refl
     ∙ same_bool (lt (det 2 m) +0) (odd₁ r s)
-    (by-implies (differ num₁ r s) (beq (lt (det 2 m) +0) (odd₁ r s)) (all_rows₁→ (right₁ r) (all_rows₁→ (λ r. all_rows₁ (right₁ r)) every₁ r) s) d)
+    (by-implies (differ num₁ r s) (beq (lt (det 2 m) +0) (odd₁ r s)) (two_rows₁→ right₁ every₁ r s) d)
   where
     r : Row Bool
     r = rows false
@@ -249,13 +249,7 @@ pub float-odd : (q : Mat) (rows : Four → Row Four) → ((c : Four) (j : ℕ) �
 float-odd q rows h d =
     lt-cong (det 4 q) +0 (det 4 m) +0 (det-alike q m entries) refl
     ∙ same_bool (lt (det 4 m) +0) (odd r s t u)
-    (by-implies (distinct r s t u) (beq (lt (det 4 m) +0) (odd r s t u))
-    (all_rows→ (right r s t)
-    (all_rows→ (λ t. all_rows (right r s t))
-    (all_rows→ (λ s. all_rows (λ t. all_rows (right r s t))) (all_rows→ (λ r. all_rows (λ s. all_rows (λ t. all_rows (right r s t)))) every r) s)
-    t)
-    u)
-    d)
+    (by-implies (distinct r s t u) (beq (lt (det 4 m) +0) (odd r s t u)) (four_rows→ right every r s t u) d)
   where
     r : Row Four
     r = rows c0

@@ -15,5 +15,6 @@ pub mod Parities
 pub mod ZProducts
 pub mod Signs
 pub mod Gates
+pub mod Exist
 pub mod Rows
 pub mod Refused

@@ -47,6 +47,25 @@ all_rows f = all2 (λ s. all4 (λ c. f (row s c)))
 pub all_rows→ : (f : Row Four → Bool) → T (all_rows f) → (r : Row Four) → T (f r)
 all_rows→ f h r = all4→ (λ c. f (row r.minus c)) (all2→ (λ s. all4 (λ c. f (row s c))) h r.minus) r.col
 
+-- two rows, and four of them
+abbrev pub two_rows₁ : (Row Bool → Row Bool → Bool) → Bool
+two_rows₁ f = all_rows₁ (λ r. all_rows₁ (f r))
+
+pub two_rows₁→ : (f : Row Bool → Row Bool → Bool) → T (two_rows₁ f) → (r s : Row Bool) → T (f r s)
+two_rows₁→ f h r = all_rows₁→ (f r) (all_rows₁→ (λ r. all_rows₁ (f r)) h r)
+
+abbrev pub two_rows : (Row Four → Row Four → Bool) → Bool
+two_rows f = all_rows (λ r. all_rows (f r))
+
+pub two_rows→ : (f : Row Four → Row Four → Bool) → T (two_rows f) → (r s : Row Four) → T (f r s)
+two_rows→ f h r = all_rows→ (f r) (all_rows→ (λ r. all_rows (f r)) h r)
+
+abbrev pub four_rows : (Row Four → Row Four → Row Four → Row Four → Bool) → Bool
+four_rows f = two_rows (λ r s. two_rows (f r s))
+
+pub four_rows→ : (f : Row Four → Row Four → Row Four → Row Four → Bool) → T (four_rows f) → (r s t u : Row Four) → T (f r s t u)
+four_rows→ f h r s = two_rows→ (f r s) (two_rows→ (λ r s. two_rows (f r s)) h r s)
+
 -- a implies b
 abbrev pub implies : Bool → Bool → Bool
 implies a b = not a || b
@@ -120,11 +139,11 @@ right₁ r s = implies (differ num₁ r s) (same_one (product₁ r s) (signed_z 
 abbrev right : Row Four → Row Four → Row Four → Row Four → Bool
 right r s t u = implies (distinct r s t u) (same_two (product r s t u) (signed_zz (odd r s t u)))
 
-every₁ : T (all_rows₁ (λ r. all_rows₁ (right₁ r)))
+every₁ : T (two_rows₁ right₁)
 unfolding xor
 every₁ = tt
 
-every : T (all_rows (λ r. all_rows (λ s. all_rows (λ t. all_rows (right r s t)))))
+every : T (four_rows right)
 unfolding xor
 every = tt
 
@@ -144,18 +163,12 @@ pub product-is₁ : (r s : Row Bool) → T (differ num₁ r s) → product₁ r 
 product-is₁ r s d =
     same-one (product₁ r s) (signed_z (odd₁ r s))
     (by-implies (differ num₁ r s) (same_one (product₁ r s) (signed_z (odd₁ r s)))
-    (all_rows₁→ (right₁ r) (all_rows₁→ (λ r. all_rows₁ (right₁ r)) every₁ r) s) d)
+    (two_rows₁→ right₁ every₁ r s) d)
 
 pub product_is : (r s t u : Row Four) → T (distinct r s t u) → product r s t u ≡ signed_zz (odd r s t u)
 product_is r s t u d =
     same-two (product r s t u) (signed_zz (odd r s t u))
-    (by-implies (distinct r s t u) (same_two (product r s t u) (signed_zz (odd r s t u)))
-    (all_rows→ (right r s t)
-    (all_rows→ (λ t. all_rows (right r s t))
-    (all_rows→ (λ s. all_rows (λ t. all_rows (right r s t))) (all_rows→ (λ r. all_rows (λ s. all_rows (λ t. all_rows (right r s t)))) every r) s)
-    t)
-    u)
-    d)
+    (by-implies (distinct r s t u) (same_two (product r s t u) (signed_zz (odd r s t u))) (four_rows→ right every r s t u) d)
 
 -- ---- what anticommutes has different columns
 
@@ -165,10 +178,10 @@ anti₁ r s = implies (same_one (image₁ r ·₁ image₁ s) (front₁ i2 (imag
 abbrev anti : Row Four → Row Four → Bool
 anti r s = implies (same_two (image r · image s) (front i2 (image s · image r))) (differ num r s)
 
-every-anti₁ : T (all_rows₁ (λ r. all_rows₁ (anti₁ r)))
+every-anti₁ : T (two_rows₁ anti₁)
 every-anti₁ = tt
 
-every-anti : T (all_rows (λ r. all_rows (anti r)))
+every-anti : T (two_rows anti)
 every-anti = tt
 
 -- both outcomes
@@ -188,13 +201,13 @@ two-refl x =
 anti-differ₁ : (r s : Row Bool) → image₁ r ·₁ image₁ s ≡ front₁ i2 (image₁ s ·₁ image₁ r) → T (differ num₁ r s)
 anti-differ₁ r s e =
     by-implies (same_one (image₁ r ·₁ image₁ s) (front₁ i2 (image₁ s ·₁ image₁ r))) (differ num₁ r s)
-    (all_rows₁→ (anti₁ r) (all_rows₁→ (λ r. all_rows₁ (anti₁ r)) every-anti₁ r) s)
+    (two_rows₁→ anti₁ every-anti₁ r s)
     (subst (λ x. T (same_one (image₁ r ·₁ image₁ s) x)) e (one-refl (image₁ r ·₁ image₁ s)))
 
 anti-differ : (r s : Row Four) → image r · image s ≡ front i2 (image s · image r) → T (differ num r s)
 anti-differ r s e =
     by-implies (same_two (image r · image s) (front i2 (image s · image r))) (differ num r s)
-    (all_rows→ (anti r) (all_rows→ (λ r. all_rows (anti r)) every-anti r) s)
+    (two_rows→ anti every-anti r s)
     (subst (λ x. T (same_two (image r · image s) x)) e (two-refl (image r · image s)))
 
 -- ---- I stays I

@@ -11,12 +11,12 @@ use Rattle.laws.specs.Maps.{dot}
 use Rattle.num.specs.Order.{abs_of}
 use Rattle.local.specs.State.{State, vacuum}
 use Rattle.local.specs.Det.{odd, det, eliminated, last_largest, better_of, lowered_all, less}
-use Rattle.state.specs.Operation.{effect}
+use Rattle.state.specs.Operation.{Engine, effect}
 use Rattle.state.specs.declared.operation.Operation.{Operation}
 use Rattle.state.specs.declared.operation.Operation.TheVariants.{One, Two, Interaction}
 use Rattle.signs.specs.Paulis.{plus, minus, float}
 use Rattle.signs.specs.Circuits.{BlockOp, Within}
-use Rattle.signs.specs.Signs.{Engine, run_by, Right, AlwaysRight}
+use Rattle.signs.specs.Signs.{run_by, Right, AlwaysRight}
 use Rattle.signs.specs.Engines.{own_engine, no_turn, own_turn, no_settling, next_turn}
 use Rattle.signs.proofs.Signs.{signs, right-z}
 use Rattle.signs.proofs.Values.{plus≢minus, float_one}

@@ -10,12 +10,12 @@ use lib.Dec.{lit<}
 use lib.ListN.{get_or}
 use Rattle.laws.specs.Zeros.{+0, +1, nz}
 use Rattle.local.specs.State.{vacuum, get}
-use Rattle.state.specs.Operation.{effect, Fits}
+use Rattle.state.specs.Operation.{Engine, effect, Fits}
 use Rattle.queries.specs.Products.{z_of, product_of}
 use Rattle.signs.specs.Paulis.{Value, nought, plus, minus, float, phases, still, expectation}
 use Rattle.signs.specs.Majoranas.{gamma, paired, zs, DistinctModes}
 use Rattle.signs.specs.Circuits.{BlockOp, interaction, pulled, Within}
-use Rattle.signs.specs.Signs.{Engine, run_by}
+use Rattle.signs.specs.Signs.{run_by}
 use Rattle.signs.proofs.Signs.{signs, right-z}
 use Rattle.signs.proofs.Gates.{X, XI, R, x_block₁, x_block, r_block, block_of₁, block_of}
 

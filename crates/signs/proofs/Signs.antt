@@ -17,6 +17,7 @@ use Rattle.state.specs.Questions.{state_ok}
 use Rattle.state.specs.Calls.{decoded_state, apply_state, called}
 use Rattle.state.specs.Operation.{decode_of, effect, applied}
 use Rattle.std.proofs.Common.{Some}
+use Rattle.state.proofs.Operations.{decode-fits}
 use Rattle.state.proofs.Questions.{asked, stored_ok}
 use Rattle.queries.specs.Products.{z_of, restricted, product_of}
 use Rattle.queries.proofs.One.{entry_alone, alone-value, pfaffian-two}
@@ -64,6 +65,12 @@ signs-in-slices n xs s within room =
     reads n xs (state_at (dim_of n) (applied_all n xs (stored (dim_of n) vacuum s))) within (slice-holds n xs s within room)
 
 -- ---- a call of `apply` is the operation that it reads, applied
+
+-- what is read from places has its modes below n
+pub stand-within : (n : ℕ) (xs : List BlockOp) (ops : List (List Float)) → StandIn n xs ops → Within n xs
+stand-within n [] ops h = tt
+stand-within n (x ∷ xs) [] h = absurd h
+stand-within n (x ∷ xs) (op ∷ ops) h = (decode-fits n op (operation x) h.0, stand-within n xs ops h.1)
 
 module _ (n : ℕ) (modes : List ℕ) where
   call-applies : (x : BlockOp) (op s : List Float) → decode_of n op ≡ Some (operation x) → state_ok n s modes ≡ true

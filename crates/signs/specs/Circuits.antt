@@ -18,16 +18,40 @@ use Rattle.signs.specs.Majoranas.{Four, num₁, num, Row, Sends₁, Sends}
 abbrev pub unit_row : {C : Type 0} → (C → ℕ) → Row C → ℕ → Float
 unit_row number r j = cond (eqb j (number r.col)) (sg r.minus +1) +0
 
+-- the engine's map q has these rows, zero signs aside
+abbrev pub HasRows₁ : Map2 → (Bool → Row Bool) → Type 0
+HasRows₁ q rows = (c : Bool) (j : ℕ) → j < 2 → nz (entry2 q (num₁ c) j) ≡ nz (unit_row num₁ (rows c) j)
+
+abbrev pub HasRows : Map4 → (Four → Row Four) → Type 0
+HasRows q rows = (c : Four) (j : ℕ) → j < 4 → nz (entry4 q (num c) j) ≡ nz (unit_row num (rows c) j)
+
 -- the engine's map q is the signed permutation by which the block g sends its Majorana operators, zero signs aside
 pub record Maps₁ (g : Block₁) (q : Map2) : Type 0 where
   pub rows : Bool → Row Bool
   pub sends : Sends₁ g rows
-  pub entries : (c : Bool) (j : ℕ) → j < 2 → nz (entry2 q (num₁ c) j) ≡ nz (unit_row num₁ (rows c) j)
+  pub entries : HasRows₁ q rows
 
 pub record Maps (g : Block) (q : Map4) : Type 0 where
   pub rows : Four → Row Four
   pub sends : Sends g rows
-  pub entries : (c : Four) (j : ℕ) → j < 4 → nz (entry4 q (num c) j) ≡ nz (unit_row num (rows c) j)
+  pub entries : HasRows q rows
+
+-- the map q is a signed permutation, zero signs aside: a 1.0 or -1.0 in each row, no two in one column, and zeros
+pub record Permutes₁ (q : Map2) : Type 0 where
+  pub rows : Bool → Row Bool
+  pub entries : HasRows₁ q rows
+  pub apart : (c d : Bool) → num₁ (rows c).col ≡ num₁ (rows d).col → num₁ c ≡ num₁ d
+
+pub record Permutes (q : Map4) : Type 0 where
+  pub rows : Four → Row Four
+  pub entries : HasRows q rows
+  pub apart : (c d : Four) → num (rows c).col ≡ num (rows d).col → num c ≡ num d
+
+-- an operation whose map is one, or an interaction
+abbrev pub Permuting : Operation → Type 0
+Permuting (One k q) = Permutes₁ q
+Permuting (Two k q) = Permutes q
+Permuting (Interaction mode block second unit) = Unit {0}
 
 -- an operation of the engine with the block that it comes from: on mode k, on the modes k and k + 1; or an interaction, which the engine passes over
 pub data BlockOp : Type 0 where

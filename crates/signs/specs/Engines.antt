@@ -10,7 +10,7 @@ use Rattle.local.specs.State.{State}
 use Rattle.local.specs.Det.{odd}
 use Rattle.local.specs.Apply.{later, unsettled}
 use Rattle.state.specs.declared.operation.Operation.TheVariants.{One, Two, Interaction}
-use Rattle.signs.specs.Signs.{Engine}
+use Rattle.state.specs.Operation.{Engine}
 
 abbrev pub Turns : Type 0
 Turns = Local → ℕ → Bool

@@ -5,23 +5,19 @@
 -- signs, so an engine that loses a turn, turns its own rows too, does not settle, or turns the next mode only is not right. Assumes nothing.
 -- A public promise rests on this.
 use Rattle.std.specs.Prelude.{◌≡◌, true, Some, List, [], ◌∷◌, ℕ, ◌*◌, ◌≤◌, ◌<◌, length, Float}
-use Rattle.laws.specs.Lists.{in_order}
+use Rattle.laws.specs.Lists.{All, in_order}
 use Rattle.laws.specs.Zeros.{nz}
 use Rattle.local.specs.Bounds.{state_places}
 use Rattle.local.specs.State.{State, state_at, stored, vacuum, get}
 use Rattle.state.specs.Bounds.{dim_of}
-use Rattle.state.specs.Operation.{applied, decode_of}
+use Rattle.state.specs.Operation.{Engine, applied, decode_of}
 use Rattle.state.specs.Questions.{state_ok}
 use Rattle.state.specs.Calls.{called}
 use Rattle.state.specs.declared.operation.Operation.{Operation}
 use Rattle.queries.specs.Products.{product_of}
 use Rattle.signs.specs.Paulis.{float, expectation}
 use Rattle.signs.specs.Majoranas.{gamma, paired, zs, DistinctModes}
-use Rattle.signs.specs.Circuits.{BlockOp, operation, pulled, Within}
-
--- what an operation does to the state; the engine's own is `effect` of crate `state`
-abbrev pub Engine : Type 0
-Engine = Operation → State → State
+use Rattle.signs.specs.Circuits.{Permuting, BlockOp, operation, pulled, Within}
 
 -- the operations of a list, in order
 abbrev pub run_by : Engine → List BlockOp → State → State
@@ -57,6 +53,10 @@ StandIn n [] [] = Unit {0}
 StandIn n [] (op ∷ ops) = ⊥
 StandIn n (x ∷ xs) [] = ⊥
 StandIn n (x ∷ xs) (op ∷ ops) = (decode_of n op ≡ Some (operation x)) × StandIn n xs ops
+
+-- each operation that stands in places is a signed permutation or an interaction
+abbrev pub AllPermute : ℕ → List (List Float) → Type 0
+AllPermute n = All (λ op. (o : Operation) × (decode_of n op ≡ Some o) × Permuting o)
 
 -- the caller's slice and mode table pass question 16
 abbrev pub RightByCalls : Type 0

@@ -80,6 +80,10 @@ effect (One mode q) t = step odd (local2 (2 * mode) q) t
 effect (Two mode q) t = step odd (local4 (2 * mode) q) t
 effect (Interaction mode block second unit) t = t
 
+-- an engine, by what an operation does to the state; this one's is `effect`
+abbrev pub Engine : Type 0
+Engine = Operation → State → State
+
 -- to the state of n qubits in a slice
 abbrev pub applied : ℕ → Operation → List Float → List Float
 applied n o s = stored (dim_of n) (effect o (state_at (dim_of n) s)) s

@@ -8,11 +8,12 @@ use lib.ListN.{length, take, drop, length-append, length-take, take-append-drop}
 use lib.Seq.{take_at, drop_at, drop-drop}
 use lib.Ieee.{Float}
 use Rattle.laws.specs.Bounds.{op_places}
+use Rattle.laws.specs.Lists.{in_order}
 use Rattle.local.specs.State.{stored, vacuum}
 use Rattle.state.specs.Bounds.{dim_of}
 use Rattle.state.specs.Operation.{decode_of}
 use Rattle.state.specs.Calls.{decoded_state}
-use Rattle.evolve.specs.Evolve.{evolved_in}
+use Rattle.evolve.specs.Evolve.{held_in, evolved_in}
 use Rattle.evolve.proofs.Evolving.{evolve-more}
 use Rattle.evolve.proofs.evolve.Goals as goal
 
@@ -27,7 +28,7 @@ chunk k op rest past ops long e =
     )
 
 pub loop-op-init : goal.loop-op-init
-unfolding evolved_in
+unfolding in_order held_in
 loop-op-init c =
     let made = c.into_iter-op-iterator.ensures.into_iter_gives in
     let chunks = c.chunks_exact-op-items.ensures in
