@@ -5,7 +5,10 @@ ghost use Rattle.detect.specs.Questions.{compiled, compiled_work, compiled_marks
 ghost use Rattle.gaussian.specs.Run.{ran, ran_work, ran_marks, ran_ops, ran_state};
 ghost use Rattle.engine.specs.Answers.{no_room, span_written};
 ghost use Rattle.engine.specs.Reports.{room_of, Reports};
-ghost use Rattle.engine.specs.Claims.{left_in, CallClaim};
+ghost use Rattle.gaussian.specs.Signs.{SignClaim};
+ghost use Rattle.gaussian.specs.Beside.{PlainRun};
+ghost use Rattle.claim.specs.Queries.{answer};
+ghost use Rattle.engine.specs.Claims.{left_in, operations_in, CallClaim};
 
 use crate::reports::{has_report, put_report};
 use crate::said::NO_ROOM;
@@ -90,6 +93,10 @@ pub extern "C" fn jozkeral_run(
     ensures register { CallClaim tape.now work.old marks.old ops.old state.old
         (room_of place.old report.old measures.old tables.old)
         (left_in result report.new tables.new state.new) }
+    ensures signs { SignClaim answer (left_in result report.new tables.new state.new)
+        (operations_in report.new) ops.new }
+    ensures plain { PlainRun (left_in result report.new tables.new state.new)
+        (operations_in report.new) ops.new }
 {
     if has_report(place.len(), report.len(), measures.len(), tables.len()) {
         let c = gaussian::run(tape, work, marks, ops, state);

@@ -37,7 +37,7 @@ use Rattle.detect.specs.Operation.{Operation}
 use Rattle.detect.specs.Emit.{operations_of}
 use Rattle.detect.specs.Report.{table, free_of, report_of}
 use Rattle.detect.specs.Compile.{match_pairs, labels_of, items_of, order_of, mode_of_wire, tape_counts, reported_of, program_of}
-use Rattle.detect.specs.Questions.{Asked, early, late, passed, answer_of}
+use Rattle.detect.specs.Questions.{passed, answer_of}
 use Rattle.local.specs.State.{stored}
 use Rattle.state.specs.Bounds.{dim_of}
 use Rattle.state.specs.Questions.{state_ok}
@@ -51,30 +51,18 @@ use Rattle.claim.specs.Queries.{Ask, Query, product, marginal, probability, samp
 use Rattle.claim.proofs.Tables.{own-table}
 use Rattle.claim.proofs.Plain.{plain-free}
 use Rattle.claim.proofs.Answering.{tape-answers}
-use Rattle.gaussian.specs.Run.{asked, ran, state_after}
-use Rattle.gaussian.specs.Claim.{left_by, RightRun, Suffice, RegisterClaim}
+use Rattle.gaussian.specs.Run.{asked, ran, state_by}
+use Rattle.gaussian.specs.Claim.{RightRun, Suffice}
 use Rattle.gaussian.proofs.Accepted.{passed-asked}
 use Rattle.gaussian.proofs.Claim.{suffice-passes, register-claim}
 use Rattle.gaussian.proofs.Edges.{tape, x0, headed, only, x_on0, parses, PlainRegister, no-gate, one-x, plain-register}
-use Rattle.engines.specs.Engines.{Engine, Claimed, state_by, run_by, asked_by, own_engine, vacuum_engine, first_engine, parity_engine, twelve_engine}
+use Rattle.engines.specs.Engines.{Engine, Claimed, altered, run_by, asked_by, own_engine, vacuum_engine, first_engine, parity_engine, twelve_engine}
 use Rattle.engines.specs.Engines.{never_room, no_room}
 
 -- ---- the engine
 
-own-state : (t : List ℕ) (work : List Float) (marks : List ℕ) (ops state : List Float)
-    → state_after (asked t work marks ops state) state ≡ state_by (λ os. os) (asked t work marks ops state) state
-unfolding state_after state_by
-own-state t work marks ops state = by (asked t work marks ops state)
-  where
-    by : (x : Asked) → state_after x state ≡ state_by (λ os. os) x state
-    by (early number place) = refl
-    by (late number h c) = refl
-    by (passed h c) = refl
-
 pub own-claimed : Claimed own_engine
-own-claimed t work marks ops state =
-    subst (λ (s : List Float). RegisterClaim answer t work marks ops state (left_by (ran t work marks ops state) s)) (own-state t work marks ops state)
-    (register-claim t work marks ops state)
+own-claimed = register-claim
 
 -- ---- the witness: n = 2, flags 0, tolerance 0, limit 128, X on 0, X on 1
 
@@ -91,8 +79,8 @@ abbrev both : Content
 both = record { gates = x_on0 ∷ x_on1 ∷ []; places = 20 ∷ 24 ∷ []; labels = [] }
 
 parsed : parse x01 ≡ accepted h both
-unfolding x01 parse after_header header_of header_marked is_tolerance header_at le64 le32 le16 of_bits lt le walk stepped record_at marked_at gate_record_at qubits_of
-    gate_length floats_of gate_fault qubits_below qubits_differ entries_small all_below sound with_gate gate_at matrix1_at matrix1q_of
+unfolding x01 parse after_header header_of header_marked is_tolerance header_at le64 le32 le16 of_bits lt le walk stepped record_at marked_at gate_record_at
+    qubits_of gate_length floats_of gate_fault qubits_below qubits_differ entries_small all_below sound with_gate gate_at matrix1_at matrix1q_of
 parsed = refl
 
 both-plain : PlainRegister both.gates
@@ -134,14 +122,14 @@ operations : (length (operations_of (mode_of_wire h both.gates) (items_of h both
     × (take 1 (operations_of (mode_of_wire h both.gates) (items_of h both.gates).items)
     ≡ operations_of (mode_of_wire h (x_on0 ∷ [])) (items_of h (x_on0 ∷ [])).items)
     × (◌≡◌ {A = List Operation} [] (operations_of (mode_of_wire h []) (items_of h []).items))
-unfolding items_of labels_of labelled unlabelled fuse_of resolved_of fused compressed resolved with_rests start_of up_from from order_of choose_order_of match_pairs
-    operations_of find
+unfolding items_of labels_of labelled unlabelled fuse_of resolved_of fused compressed resolved with_rests start_of up_from from order_of choose_order_of
+    match_pairs operations_of find
 operations = (refl, refl, refl)
 
 -- qubit q stays on mode q
 tables : ((reported_of h (x_on0 ∷ [])).modes ≡ (reported_of h both.gates).modes) × ((reported_of h []).modes ≡ (reported_of h both.gates).modes)
-unfolding reported_of report_of table items_of labels_of labelled unlabelled fuse_of resolved_of fused compressed resolved with_rests start_of up_from from order_of
-    choose_order_of match_pairs find
+unfolding reported_of report_of table items_of labels_of labelled unlabelled fuse_of resolved_of fused compressed resolved with_rests start_of up_from from
+    order_of choose_order_of match_pairs find
 tables = (refl, refl)
 
 -- ---- the run on the witness
@@ -227,9 +215,9 @@ own-lent = rw run-report (own-table x01 h both parsed)
 module _ (f : List Operation → List Operation) (t : List ℕ) (c : Content) (e : parse t ≡ accepted h c) (plain : PlainRegister c.gates)
     (program : f (program_of h both.gates) ≡ program_of h c.gates) (modes : (reported_of h c.gates).modes ≡ (reported_of h both.gates).modes)
     (still : register_product (register_bits c.gates) (1 ∷ []) ≡ +1) where
-  state-is : state_by f (asked x01 work marks ops state) state ≡ stored (dim_of 2) (evolved 2 (program_of h c.gates)) state
+  state-is : state_by (altered f) (asked x01 work marks ops state) state ≡ stored (dim_of 2) (evolved 2 (program_of h c.gates)) state
   unfolding state_by
-  state-is = ap (λ x. state_by f x state) run-asked ∙ ap (λ os. stored (dim_of 2) (evolved 2 os) state) program
+  state-is = ap (λ x. state_by (altered f) x state) run-asked ∙ ap (λ os. stored (dim_of 2) (evolved 2 os) state) program
 
   -- what the other tape's register says
   truth : RightAnswer 2 (register_bits c.gates) z1
@@ -240,7 +228,7 @@ module _ (f : List Operation → List Operation) (t : List ℕ) (c : Content) (e
       (subst (λ (l : List ℕ). Begins 2 (reported_of h c.gates).modes l) modes (own-table t h c e))
       (plain-register t h c e plain) (free t c e plain) (z1 ∷ [])).0
 
-  answer-is : answer (ran x01 work marks ops state).report.n (state_by f (asked x01 work marks ops state) state)
+  answer-is : answer (ran x01 work marks ops state).report.n (state_by (altered f) (asked x01 work marks ops state) state)
       (ran x01 work marks ops state).report.modes z1
       ≡ answer 2 (stored (dim_of 2) (evolved 2 (program_of h c.gates)) state) (reported_of h both.gates).modes z1
   unfolding reported_of report_of

@@ -3,17 +3,14 @@
 use Rattle.std.specs.Prelude.{cond, List, [], ℕ, eqb, ltb, length, take, Float}
 use Rattle.laws.specs.Zeros.{+1}
 use Rattle.detect.specs.Operation.{Operation}
-use Rattle.detect.specs.Compile.{program_of}
-use Rattle.detect.specs.Questions.{Asked, early, late, passed}
-use Rattle.local.specs.State.{stored}
-use Rattle.state.specs.Bounds.{dim_of}
+use Rattle.local.specs.State.{State}
 use Rattle.state.specs.Answers.{accepted, refused}
 use Rattle.state.specs.Questions.{state_ok}
 use Rattle.queries.specs.Lists.{bad_place, bits_ok, stop_place}
 use Rattle.queries.specs.Calls.{stopped_of}
 use Rattle.evolve.specs.Evolve.{evolved}
 use Rattle.claim.specs.Queries.{Query, product, marginal, probability, sample, Ask, number, answer}
-use Rattle.gaussian.specs.Run.{asked, ran}
+use Rattle.gaussian.specs.Run.{state_by, asked, ran}
 use Rattle.gaussian.specs.Claim.{Left, left_by, RegisterClaim}
 
 -- what a run of a tape leaves, given its bytes and the lent slices (work, marks, operations, state); and what a query is given
@@ -28,13 +25,11 @@ Claimed e = (t : List ℕ) (work : List Float) (marks : List ℕ) (ops state : L
 
 -- ---- runs that differ in the state only: f makes of the program what is applied to the vacuum
 
-unfoldable pub state_by : (List Operation → List Operation) → Asked → List Float → List Float
-state_by f (early number place) state = state
-state_by f (late number h c) state = state
-state_by f (passed h c) state = stored (dim_of h.n) (evolved h.n (f (program_of h c.gates))) state
+abbrev pub altered : (List Operation → List Operation) → ℕ → List Operation → State
+altered f n os = evolved n (f os)
 
 abbrev pub run_by : (List Operation → List Operation) → List ℕ → List Float → List ℕ → List Float → List Float → Left
-run_by f t work marks ops state = left_by (ran t work marks ops state) (state_by f (asked t work marks ops state) state)
+run_by f t work marks ops state = left_by (ran t work marks ops state) (state_by (altered f) (asked t work marks ops state) state)
 
 -- the engine's run, which applies the whole program, with some answers
 abbrev pub asked_by : Ask → Engine

@@ -19,7 +19,7 @@ use Rattle.detect.specs.Questions.{Asked, early, late, passed, answer_of, ops_af
 use Rattle.local.specs.State.{stored}
 use Rattle.state.specs.Bounds.{dim_of}
 use Rattle.evolve.specs.Evolve.{evolved}
-use Rattle.gaussian.specs.Run.{verdict_of, asked_report, state_after, asked, ran, ran_ops, ran_state}
+use Rattle.gaussian.specs.Run.{verdict_of, asked_report, state_by, state_after, asked, ran, ran_ops, ran_state}
 use Rattle.tape.proofs.Numbers.{Numbered, parse-numbered}
 use Rattle.gaussian.proofs.Verdicts.{Passes, verdict-passes, passes-verdict}
 
@@ -79,7 +79,7 @@ pub record Ran (t : List ℕ) (work : List Float) (marks : List ℕ) (ops state 
 module _ (t : List ℕ) (work : List Float) (marks : List ℕ) (ops state : List Float) where
   -- what an accepted run says
   pub run-says : number_of (ran t work marks ops state).answer ≡ 0 → Ran t work marks ops state
-  unfolding answer_of ops_after state_after
+  unfolding answer_of ops_after state_by
   run-says e =
       by (asked t work marks ops state) refl
       (asked-says (length ops) (length state) (parse t) (parse-numbered t) (length work) (length marks)) e

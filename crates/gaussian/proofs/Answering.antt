@@ -25,7 +25,7 @@ use Rattle.local.specs.State.{stored, vacuum}
 use Rattle.state.specs.Bounds.{dim_of}
 use Rattle.evolve.specs.Evolve.{evolved_in}
 use Rattle.evolve.proofs.Evolving.{evolved-written}
-use Rattle.gaussian.specs.Run.{verdict_of, judged, asked_report, state_after, ran, ran_ops, ran_state}
+use Rattle.gaussian.specs.Run.{verdict_of, judged, asked_report, state_by, state_after, ran, ran_ops, ran_state}
 use Rattle.gaussian.specs.Told.{Says}
 use Rattle.gaussian.proofs.Verdicts.{verdict-passes}
 use Rattle.gaussian.proofs.Accepted.{Ran, run-says}
@@ -53,7 +53,7 @@ is_done Answer.Done = true
 is_done (Answer.Refused number place) = false
 
 pub refused-state : (x : Asked) (number place : ℕ) (state : List Float) → refusal number place ≡ answer_of x → state ≡ state_after x state
-unfolding answer_of state_after is_done
+unfolding answer_of state_by is_done
 refused-state (early n p) number place state e = refl
 refused-state (late n h c) number place state e = refl
 refused-state (passed h c) number place state e = absurd (true≢false (sym (ap (λ c. is_done c.answer) e)))

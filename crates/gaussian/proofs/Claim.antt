@@ -1,6 +1,6 @@
 -- The register claim of every run. An accepted run has passed the questions, so that its state is the one that the claim for whole tapes speaks of; a
 -- plain tape has no bad blocks and no interactions, so that it passes 11 to 13. Assumes nothing.
-use mathlib.Core.Path.{◌≡◌, sym, ap, subst}
+use mathlib.Core.Path.{◌≡◌, sym, ap, subst, transport}
 use mathlib.Core.List.{List}
 use Prim.Native.Nat.{ℕ}
 use lib.ListN.{length}
@@ -43,7 +43,7 @@ module _ (t : List ℕ) (work : List Float) (marks : List ℕ) (ops state : List
         parsed = p.parsed;
         right = λ modes lent qs.
             let table = subst (λ (r : Compiled). Begins y.header.n r.report.modes modes) y.report lent in
-            subst (λ (claim : Type 0). claim)
+            transport
             (λ z. RightAnswers y.header.n (register_bits y.content.gates) qs
             (answers answer (sym y.report z).report.n (sym y.final z) modes qs))
             (tape-answers t y.header y.content p.parsed state p.rest.state modes table register
@@ -63,4 +63,4 @@ module _ (t : List ℕ) (work : List Float) (marks : List ℕ) (ops state : List
   pub claim-of : (r : Compiled) (s : List Float) → r ≡ ran t work marks ops state → s ≡ ran_state t work marks ops state
       → RegisterClaim answer t work marks ops state (left_by r s)
   claim-of r s e f =
-      subst (λ (claim : Type 0). claim) (λ z. RegisterClaim answer t work marks ops state (left_by (sym e z) (sym f z))) register-claim
+      transport (λ z. RegisterClaim answer t work marks ops state (left_by (sym e z) (sym f z))) register-claim

@@ -6,6 +6,7 @@ use mathlib.Core.List.{List, [], ◌∷◌, Memᴰ}
 use Prim.Native.Nat.{ℕ, ◌≤◌, ◌<◌}
 use lib.ListN.{length}
 use lib.Ieee.{Float}
+use Rattle.laws.specs.Bounds.{max_qubits}
 use Rattle.tape.specs.Parse.{Content, accepted, parse, content_of}
 use Rattle.tape.specs.declared.header.Header.{Header}
 use Rattle.tape.specs.declared.gates.Gate.{Gate}
@@ -14,6 +15,7 @@ use Rattle.detect.specs.declared.report.Report.{Report}
 use Rattle.detect.specs.Report.{report_of}
 use Rattle.detect.specs.Compile.{reported_of}
 use Rattle.state.specs.Questions.{state_ok}
+use Rattle.state.proofs.Questions as questions
 use Rattle.queries.specs.Calls.{expectation_z_product_of}
 use Rattle.queries.proofs.One.{one-qubit}
 use Rattle.state.specs.Answers.{Told}
@@ -71,6 +73,10 @@ module _ (t : List ℕ) (work : List Float) (marks : List ℕ) (ops state : List
       (λ z. state_ok (y.report z).report.n (y.final z) (y.report z).report.modes)
       ∙ passes-sixteen t y.header y.content y.passes.parsed state y.passes.rest.state _
       (own-table t y.header y.content y.passes.parsed)
+
+  -- question 2
+  pub run-few : (ran t work marks ops state).report.n ≤ max_qubits
+  run-few = (questions.asked _ _ _ state-passes).few
 
   -- ---- Z of qubit q
 

@@ -3,6 +3,8 @@ pub mod Verdicts
 pub mod Answering
 pub mod Accepted
 pub mod Claim
+pub mod Parities
+pub mod Signs
 pub mod Expectation
 pub mod Rows
 pub mod Edges

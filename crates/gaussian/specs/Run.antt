@@ -6,11 +6,12 @@ use Rattle.tape.specs.Parse.{Content, parse}
 use Rattle.tape.specs.declared.header.Header.{Header}
 use Rattle.detect.specs.declared.report.Report.{Report}
 use Rattle.detect.specs.Answers.{Compiled}
+use Rattle.detect.specs.Operation.{Operation}
 use Rattle.detect.specs.Compile.{reported_of, program_of}
 use Rattle.work.specs.Sizes.{work_floats, work_marks}
 use Rattle.detect.specs.Questions.{Asked, early, late, passed, answer_of, work_after, ops_after, asked_from, ops_lack}
 use Rattle.local.specs.Bounds.{state_places}
-use Rattle.local.specs.State.{stored}
+use Rattle.local.specs.State.{State, stored}
 use Rattle.state.specs.Bounds.{dim_of}
 use Rattle.evolve.specs.Evolve.{evolved}
 
@@ -59,10 +60,14 @@ asked_report o s h c = judged (verdict_of h (reported_of h c.gates) (length (pro
 
 -- ---- the state afterwards: "no slice changes, except work"
 
-unfoldable pub state_after : Asked → List Float → List Float
-state_after (early number place) state = state
-state_after (late number h c) state = state
-state_after (passed h c) state = stored (dim_of h.n) (evolved h.n (program_of h c.gates)) state
+-- `made` is what n and the program make: the engine's own is `evolved`, from the vacuum
+unfoldable pub state_by : (ℕ → List Operation → State) → Asked → List Float → List Float
+state_by made (early number place) state = state
+state_by made (late number h c) state = state
+state_by made (passed h c) state = stored (dim_of h.n) (made h.n (program_of h c.gates)) state
+
+abbrev pub state_after : Asked → List Float → List Float
+state_after = state_by evolved
 
 -- ---- of the tape's bytes and the lent slices
 

@@ -4,13 +4,16 @@ ghost use Rattle.detect.specs.Told.{told};
 ghost use Rattle.claim.specs.Queries.{answer};
 ghost use Rattle.gaussian.specs.Run.{ran, ran_work, ran_marks, ran_ops, ran_state};
 ghost use Rattle.gaussian.specs.Claim.{left_by, RegisterClaim};
+ghost use Rattle.gaussian.specs.Signs.{SignClaim};
+ghost use Rattle.gaussian.specs.Beside.{PlainRun};
 
 use crate::questions::verdict;
 use detect::{Refusal, Report, compile_judged};
 use evolve::evolve;
 
 // A tape run: its report, its operations, and the state that they make of the vacuum. `work` and `marks` are lent to work in: from question 9 on the places
-// that it names are zero afterwards, whatever the answer. A refusal leaves the operations and the state alone. The last clause is the register claim.
+// that it names are zero afterwards, whatever the answer. A refusal leaves the operations and the state alone. The last three clauses are the register claim,
+// the signs, and the run beside the plain engine.
 pub fn run(
     tape: &[u8],
     work: &mut [f64],
@@ -25,6 +28,10 @@ pub fn run(
     ensures state { state.new ≡ ran_state tape.now work.old marks.old ops.old state.old }
     ensures register { RegisterClaim answer tape.now work.old marks.old ops.old state.old
         (left_by (told result) state.new) }
+    ensures signs { SignClaim answer (left_by (told result) state.new)
+        (told result).report.operations ops.new }
+    ensures plain { PlainRun (left_by (told result) state.new)
+        (told result).report.operations ops.new }
 {
     let room = ops.len();
     let places = state.len();

@@ -3,6 +3,6 @@
 #![tactic(auto)]
 
 mod questions; // the questions 10 to 15
-mod engine; // public `run`, with the register claim
+mod engine; // public `run`, with the register claim, the signs, and the plain engine beside it
 
 pub use engine::run;

@@ -22,7 +22,7 @@ use Rattle.detect.specs.Questions.{Asked, early, late, passed, answer_of, has_wo
 use Rattle.detect.proofs.Reports.{operations-told}
 use Rattle.local.specs.Bounds.{state_places}
 use Rattle.state.specs.Bounds.{dim_of}
-use Rattle.gaussian.specs.Run.{verdict_of, judged, asked_report, state_after}
+use Rattle.gaussian.specs.Run.{verdict_of, judged, asked_report, state_by, state_after}
 use Rattle.text.specs.Bounds.{printed_gates, printed_qubits}
 use Rattle.text.specs.Lines.{refused_line}
 use Rattle.text.specs.Print.{is_large, run_of, done_text, text_of}
@@ -104,7 +104,7 @@ refused-text (late r h c) number place e =
 refused-text (passed h c) number place e = absurd (done≢refused number place e)
 
 pub done-text : (x : Asked) → (answer_of x).answer ≡ Done → text_of x ≡ done_text (answer_of x).report (state_after x (replicate states +0))
-unfolding answer_of text_of state_after
+unfolding answer_of text_of state_by
 done-text (early r q) e = absurd (done≢refused r q (sym e))
 done-text (late r h c) e = absurd (done≢refused r 0 (sym e))
 done-text (passed h c) e = refl

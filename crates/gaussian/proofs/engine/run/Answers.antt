@@ -7,6 +7,7 @@ use Rattle.detect.proofs.Judging.{told_err}
 use Rattle.gaussian.specs.Run.{asked, asked_report}
 use Rattle.gaussian.proofs.Answering.{verdict-judged, verdict-room, refused-state, has_room, has_state, state-ran}
 use Rattle.gaussian.proofs.Claim.{claim-of}
+use Rattle.gaussian.proofs.Signs.{signs-of, plain-of}
 use Rattle.gaussian.proofs.engine.run.Goals as goal
 
 pub compile_judged-requires-clause-room : goal.compile_judged-requires-clause-room
@@ -42,6 +43,8 @@ returns-in_err-r c =
       ops = left.program;
       state = state;
       register = claim-of a.tape.now a.work.now a.marks.now a.ops.now a.state.now _ _ answer state;
+      signs = signs-of a.tape.now a.work.now a.marks.now a.ops.now a.state.now _ _ _ answer left.program state;
+      plain = plain-of a.tape.now a.work.now a.marks.now a.ops.now a.state.now _ _ _ answer left.program state;
     }
 
 pub returns : goal.returns
@@ -59,4 +62,6 @@ returns c =
       ops = left.program;
       state = state;
       register = claim-of a.tape.now a.work.now a.marks.now a.ops.now a.state.now _ _ answer state;
+      signs = signs-of a.tape.now a.work.now a.marks.now a.ops.now a.state.now _ _ _ answer left.program state;
+      plain = plain-of a.tape.now a.work.now a.marks.now a.ops.now a.state.now _ _ _ answer left.program state;
     }
