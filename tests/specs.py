@@ -22,7 +22,8 @@ CALLS = {
     "text": ["print_tape"],
     "engine": None,
 }
-THEOREMS = [("engines", "Engines"), ("signs", "Signs"), ("signs", "Engines"), ("postponed", "Beside"), ("postponed", "Engines"), ("queries", "Draws")]
+THEOREMS = [("engines", "Engines"), ("signs", "Signs"), ("signs", "Engines"), ("postponed", "Beside"), ("postponed", "Engines"), ("queries", "Draws"),
+            ("rows", "Lost")]
 
 USE = re.compile(r"^(?:ghost )?use Rattle\.([a-z_0-9]+)\.(specs|proofs)\.([A-Za-z0-9_.-]+?)(?:\.\{([^}]*)\}| as (\S+))?;?$")
 CALL = re.compile(r"^pub (?:extern \"C\" )?fn ([a-z_0-9]+)\(.*?^\{$", re.M | re.S)

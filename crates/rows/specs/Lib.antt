@@ -1,2 +1,2 @@
 -- What the worked rows speak of. Definitions only.
-pub mod Evolved
+pub mod Lost
