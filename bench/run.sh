@@ -2,14 +2,14 @@
 # Compares port and original bit for bit, then prints the tables of times, memory and instructions; fails if the port takes more
 # instructions than recorded.
 #   bench/run.sh ORIGINAL_DIR [PART ..]
-# The parts are compare (leaves, and calls on states), compile, runs, plain (the engine beside the plain one), time, memory and count; all
-# of them if none is named.
+# The parts are compare (leaves, and calls on states), compile, runs, plain (the engine beside the plain one), strings (runs beside Pauli
+# strings), time, memory and count; all of them if none is named.
 set -eu
 ROOT=$(cd "$(dirname "$0")/.." && pwd)
 . "$ROOT/tests/oracle/env.sh"
 original_at "${1-}"
 shift
-PARTS="compare compile runs plain time memory count"
+PARTS="compare compile runs plain strings time memory count"
 for part; do
     case " $PARTS " in
     *" $part "*) ;;
@@ -22,6 +22,7 @@ for part; do
     case $part in
     compare) "$BENCH" compare 100000 100000 ;;
     compile | runs | plain) "$BENCH" "$part" 20000 ;;
+    strings) "$BENCH" strings 10000 ;;
     time) "$BENCH" time ;;
     memory) "$MEMORY" ;;
     count) "$ROOT/bench/count.sh" "$QSIM_SRC" ;;

@@ -19,6 +19,7 @@ and beside the original, if ORIGINAL_DIR names the folder that holds its src/gat
   bench_compile  the same of compile
   bench_runs     the same of whole runs
   bench_plain    the engine beside the plain one
+  bench_strings  runs beside signed Pauli strings
   bench_count    the port's instructions beside the recorded ones: bench/count.sh
 Each part prints its verdict and its time; what it said is in target/all/PART.log. The last lines are a table of them all.
 The library is built first if it is older than a source, which proves the engine. The status is 1 if a part failed, 2 if
@@ -81,7 +82,7 @@ part host tests/host.sh
 part abi tests/abi/run.sh
 beside oracle tests/oracle/check.sh
 beside compare_host tests/oracle/compare_host.sh
-for piece in compare compile runs plain count; do
+for piece in compare compile runs plain strings count; do
     beside bench_$piece bench/run.sh $piece
 done
 

@@ -21,6 +21,8 @@ mod rows;
 pub mod runs;
 mod slice;
 mod states;
+pub mod strings;
+mod table;
 pub mod times;
 
 pub use oracle::layout;

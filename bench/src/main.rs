@@ -1,6 +1,6 @@
-//! The program `bench`: original and port in one process, and the engine beside the plain one.
+//! The program `bench`: original and port in one process, the engine beside the plain one, and runs beside Pauli strings.
 
-use bench::{callgrind, compare, compile, counts, growth, plain, plot, runs, times};
+use bench::{callgrind, compare, compile, counts, growth, plain, plot, runs, strings, times};
 use oracle::rng::Rng;
 use std::process::ExitCode;
 
@@ -9,6 +9,7 @@ bench compare ROOTS OTHERS  compares ROOTS square roots and OTHERS calls of each
 bench compile LISTS         compares the answers of compile to LISTS random lists of each family
 bench runs LISTS            compares whole runs and queries: LISTS random lists of each family, all short lists, damaged tapes
 bench plain LISTS           compares the engine with the plain one: LISTS random lists of operations of each family
+bench strings LISTS         compares runs with signed Pauli strings: LISTS random lists of each family
 bench time                  the table of times
 bench time compile          the lines for compile alone
 bench time compile PART     those whose name has this part, with the heap as it is in a new process
@@ -40,6 +41,10 @@ fn main() -> ExitCode {
         },
         ["plain", lists] => match lists.parse() {
             Ok(lists) => end(plain::compare(&mut Rng::new(SEED), lists)),
+            _ => usage(),
+        },
+        ["strings", lists] => match lists.parse() {
+            Ok(lists) => end(strings::compare(&mut Rng::new(SEED), lists)),
             _ => usage(),
         },
         ["time", ..] => time(&words[1..]),

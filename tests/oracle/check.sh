@@ -1,8 +1,8 @@
 #!/bin/sh
 # Builds the oracle and checks it: the two module trees agree, the plain engine
-# agrees with the original, the original agrees with a state vector on the edge
-# cases and on COUNT random lists of each family (4000 if it is not given), and
-# the stored lists are what it gives.
+# agrees with the original, Pauli strings with matrices and a state vector, the
+# original agrees with a state vector on the edge cases and on COUNT random lists
+# of each family (4000 if it is not given), and the stored lists are what it gives.
 #   tests/oracle/check.sh ORIGINAL_DIR [COUNT]
 set -eu
 ROOT=$(cd "$(dirname "$0")/../.." && pwd)

@@ -2,6 +2,7 @@
 //! comparison that no fault could fail would show nothing.
 
 use super::SMALL;
+use crate::table;
 use oracle::plain::{self, asked, same_along, Fault};
 use oracle::runs::faults::{self, Fault as Postponed};
 use Count::*;
@@ -122,16 +123,9 @@ pub fn end(families: &[(&str, Seen)]) -> bool {
     families
         .iter()
         .for_each(|(_, seen)| LINES.iter().for_each(|row| all.note(row.0, seen.of(row.0))));
-    let line = |first: &str, rest: &dyn Fn(&str, &Seen) -> String| {
-        let columns =
-            families.iter().map(|(name, seen)| rest(name, seen)).chain([rest("all", &all)]);
-        println!(
-            "{first:<30}{}",
-            columns.map(|column| format!(" {column:>12}")).collect::<String>()
-        );
-    };
-    line("plain", &|name, _| name.to_string());
-    LINES.iter().for_each(|(count, first)| line(first, &|_, seen| seen.of(*count).to_string()));
+    let counts = |count: Count| families.iter().map(|(_, seen)| seen.of(count)).collect();
+    let names: Vec<&str> = families.iter().map(|(name, _)| *name).collect();
+    table::print("plain", &names, &LINES.map(|(count, first)| (first, counts(count))));
     let least = |(count, one): (Count, usize)| one * all.of(count) >= all.of(Lists);
     families.iter().all(|(_, seen)| seen.shows()) && LEAST.into_iter().all(least)
 }

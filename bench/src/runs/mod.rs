@@ -1,6 +1,6 @@
 //! Whole runs: original and port on the same circuits, from the tape to the answers of every query.
 
-mod case;
+pub mod case;
 mod counts;
 mod damage;
 mod damaged;

@@ -27,6 +27,7 @@ pub mod state_lists;
 pub mod state_text;
 pub mod stops;
 pub mod stored_tapes;
+pub mod strings;
 pub mod tape;
 pub mod traced;
 pub mod vector;

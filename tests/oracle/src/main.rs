@@ -5,7 +5,7 @@ use oracle::list::{parse_many, List, SEPARATOR};
 use oracle::rng::Rng;
 use oracle::{
     check, classify, compiled, families, fused, leaves, plain, printed, run, runs, selftest,
-    state_lists, stored_tapes, tape,
+    state_lists, stored_tapes, strings, tape,
 };
 use std::io::{self, BufWriter, Read, Write};
 use std::process::ExitCode;
@@ -16,7 +16,8 @@ oracle tape FILE OUT             the tape of FILE's gate list to OUT (several li
 oracle random SEED COUNT FAMILY  random gate lists to standard output
 oracle families                  the names of the families
 oracle vector FILE               the answers beside those of a state vector
-oracle selftest SEED COUNT       the module trees beside each other, and the plain engine beside the original: COUNT lists a family
+oracle selftest SEED COUNT       the module trees beside each other, the plain engine beside the original, strings beside matrices and
+                                 a state vector: COUNT lists a family
 oracle reader FILE ..            the plain reader of tapes beside the stored answers of the one in Python
 oracle leaves [products]         the stored list of leaf results, or its second part, in binary
 oracle fuse LIST                 the stored list LIST of tapes and their items, in binary: cuts, mixed, angled or ties
@@ -32,6 +33,8 @@ oracle printed                   what must be printed of these tapes";
 
 /// Calls whose rows are compared, for each list of a family.
 const ROWS: usize = 100;
+/// And lists of gates whose strings are.
+const STRINGS: usize = 10;
 
 fn main() -> ExitCode {
     let args: Vec<String> = std::env::args().skip(1).collect();
@@ -118,10 +121,13 @@ fn selftest(seed: u64, count: usize) -> Result<bool, String> {
     println!("rows: {calls} calls compared, {stops} of them stop, {rows_differ} differ");
     let plain = plain::beside::beside(seed, count);
     println!("plain engine: {plain}");
+    let strings = strings::checks::checks(seed, STRINGS * count);
+    println!("strings: {strings}");
     let tape = selftest::tape_is_right();
     println!("known tape: {}", if tape { "right" } else { "wrong" });
     let differ = out.trees_differ + out.texts_differ + rows_differ + plain.differ;
-    Ok(differ == 0 && stops > 0 && 2 * plain.turning > plain.lists && tape)
+    let strings = strings.well(STRINGS * count);
+    Ok(differ == 0 && stops > 0 && 2 * plain.turning > plain.lists && strings && tape)
 }
 
 fn reader(files: &[&str]) -> Result<bool, String> {

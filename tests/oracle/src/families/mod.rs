@@ -3,7 +3,7 @@
 
 mod angles;
 mod finish;
-mod maker;
+pub mod maker;
 mod matchgate;
 mod opaque;
 pub mod phases;

@@ -35,6 +35,11 @@ pub fn xx(a: usize, b: usize, t: f64) -> Vec<Gate> {
     vec![Gate::Cnot(a, b), Gate::Rx(a, t), Gate::Cnot(a, b)]
 }
 
+/// The quarter turn by XX: a signed permutation of the Majorana operators.
+pub fn quarter(a: usize, b: usize) -> Vec<Gate> {
+    vec![Gate::Cnot(a, b), Gate::Sx(a), Gate::Cnot(a, b)]
+}
+
 /// The rotation by YY.
 fn yy(a: usize, b: usize, t: f64) -> Vec<Gate> {
     let mut out = vec![Gate::Sdg(a), Gate::Sdg(b)];

@@ -4,10 +4,10 @@
 //! numbers 1 to 10, 15, 21 and 22 and all places are the paper's own: the
 //! original has no tape, no largest n, no lent slices, and takes any draw.
 
-use super::signs::quarter;
 use super::{add as add_record, add_run, asked, exactly, Lent, Ran, TOL};
 use crate::bits::word;
 use crate::compiled::edges::refused_tapes;
+use crate::families::pieces::quarter;
 use crate::layout::{
     measure, table, word as at, work_floats, work_marks, HEADER_BYTES, MAX_GATES, MAX_QUBITS,
     OP_PLACES,

@@ -1,5 +1,5 @@
-//! The engine's `apply` written again, with a fault of the signs if one is asked for: what a stored tape must show, and what `bench plain` must
-//! tell apart.
+//! The engine's `apply` written again, with a fault of the signs if one is asked for: what a stored tape must show, and what `bench plain` and
+//! `bench strings` must tell apart.
 
 use crate::layout::{kind, OP_PLACES};
 use original::access::state::access::det;
@@ -24,10 +24,7 @@ pub const FAULTS: [Fault; 4] = [Fault::NoTurn, Fault::TurnOwn, Fault::TurnNext, 
 
 /// Z of every mode after the operations, from the vacuum.
 pub fn z(n: usize, ops: &[f64], fault: Fault) -> Vec<f64> {
-    let mut state = State::vacuum(n);
-    for (k, op) in ops.chunks(OP_PLACES).enumerate() {
-        state.apply(k, op, fault);
-    }
+    let state = after(n, ops, fault);
     (0..n).map(|mode| state.entry(2 * mode, 2 * mode + 1)).collect()
 }
 
@@ -41,13 +38,27 @@ pub fn along(n: usize, ops: &[Vec<f64>], fault: Fault) -> Vec<Vec<f64>> {
     ops.iter().enumerate().map(after).collect()
 }
 
+/// The covariance after all of the operations, by rows; interactions are passed over.
+pub fn covariance(n: usize, ops: &[f64], fault: Fault) -> Vec<f64> {
+    after(n, ops, fault).covariance()
+}
+
+fn after(n: usize, ops: &[f64], fault: Fault) -> State {
+    let mut state = State::vacuum(n);
+    let maps = ops.chunks(OP_PLACES).enumerate().filter(|(_, op)| op[0] != kind::INTERACTION);
+    maps.for_each(|(k, op)| state.apply(k, op, fault));
+    state
+}
+
 /// The operations that turn later modes.
 pub fn turns(n: usize, ops: &[f64]) -> Vec<usize> {
-    let turns = |op: &[f64]| is_odd(op) && width(op) + 2 * (op[1] as usize) < 2 * n;
+    let turns = |op: &[f64]| {
+        op[0] != kind::INTERACTION && is_odd(op) && width(op) + 2 * (op[1] as usize) < 2 * n
+    };
     ops.chunks(OP_PLACES).enumerate().filter(|(_, op)| turns(op)).map(|(k, _)| k).collect()
 }
 
-/// Operators that a map is on; here is no interaction.
+/// Operators that a map is on.
 fn width(op: &[f64]) -> usize {
     if op[0] == kind::ONE {
         2

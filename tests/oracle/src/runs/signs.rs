@@ -6,7 +6,7 @@ use super::faults::{turns, z, Fault, FAULTS};
 use super::ran::Ran;
 use super::{add_run, TOL};
 use crate::check::Counts;
-use crate::families::pieces::xx;
+use crate::families::pieces::{quarter, xx};
 use crate::layout::covariance_bytes;
 use crate::list::{List, RELABEL, REORDER};
 use crate::query::Query;
@@ -15,7 +15,7 @@ use crate::rng::Rng;
 use crate::tape::tape;
 use original::gate::Gate;
 
-/// Random tapes beside the two named ones; the first of them are long, and show every fault.
+/// Random tapes beside the named ones; the first of them are long, and show every fault.
 const RANDOM: usize = 40;
 const LONG: usize = 10;
 
@@ -32,11 +32,11 @@ struct Shown {
 
 pub fn add(out: &mut Records, rng: &mut Rng) {
     let mut shown = Shown::default();
-    for (list, right, wrong) in named() {
+    for Named { list, right, fault, wrong } in named() {
         let ran = Ran::of(&list);
         assert_eq!(z(list.n, &ran.compiled.ops, Fault::None), right);
-        assert_eq!(z(list.n, &ran.compiled.ops, Fault::NoTurn), wrong);
-        assert!(stored(out, &list, &[Fault::NoTurn], &mut shown), "a named tape");
+        assert_eq!(z(list.n, &ran.compiled.ops, fault), wrong);
+        store(out, &list, &ran, &mut shown);
     }
     let mut count = 0;
     while count < RANDOM {
@@ -48,20 +48,29 @@ pub fn add(out: &mut Records, rng: &mut Rng) {
     assert!(often && shown.rows[0].min(shown.rows[1]) >= 3, "what few tapes show: {shown:?}");
 }
 
-/// The quarter turn by XX: a signed permutation of the Majorana operators.
-pub fn quarter(a: usize, b: usize) -> Vec<Gate> {
-    vec![Gate::Cnot(a, b), Gate::Sx(a), Gate::Cnot(a, b)]
+/// A tape with each Z, a fault that it shows, and each Z of an engine with this fault.
+struct Named {
+    list: List,
+    right: Vec<f64>,
+    fault: Fault,
+    wrong: Vec<f64>,
 }
 
-/// Tapes with each Z, and each Z of an engine that never turns.
-fn named() -> [(List, [f64; 3], [f64; 3]); 2] {
+/// Two tapes that show no turn, and one that shows a turn of the next mode only: of four qubits, since the others have no mode after the next.
+fn named() -> [Named; 3] {
     use Gate::*;
     let first = [quarter(1, 2), vec![X(0)], quarter(0, 1), quarter(1, 2)].concat();
     let second = [quarter(0, 1), vec![X(0), ISwap(1, 2), ISwap(0, 1)], quarter(1, 2)].concat();
+    let third = [quarter(2, 3), vec![X(0)], quarter(0, 1), quarter(1, 2), quarter(2, 3)].concat();
     let rng = &mut Rng::new(0);
+    let mut row = |gates, fault, right: &[f64], wrong: &[f64]| {
+        let list = of(rng, right.len(), 0, gates);
+        Named { list, right: right.to_vec(), fault, wrong: wrong.to_vec() }
+    };
     [
-        (of(rng, 3, 0, first), [0.0, 0.0, -1.0], [0.0, 0.0, 1.0]),
-        (of(rng, 3, 0, second), [1.0, 1.0, -1.0], [1.0, -1.0, 1.0]),
+        row(first, Fault::NoTurn, &[0.0, 0.0, -1.0], &[0.0, 0.0, 1.0]),
+        row(second, Fault::NoTurn, &[1.0, 1.0, -1.0], &[1.0, -1.0, 1.0]),
+        row(third, Fault::TurnNext, &[0.0, 0.0, 0.0, -1.0], &[0.0, 0.0, 0.0, 1.0]),
     ]
 }
 
@@ -71,21 +80,31 @@ fn stored(out: &mut Records, list: &List, faults: &[Fault], shown: &mut Shown) -
     if !ran.accepted() || ran.seen.angled {
         return false;
     }
-    let ops = &ran.compiled.ops;
-    let right = z(list.n, ops, Fault::None);
-    let shows =
-        |fault: Fault| right.iter().zip(z(list.n, ops, fault)).any(|(a, b)| (a - b).abs() > CLEAR);
-    let single = turns(list.n, ops).into_iter().any(|k| shows(Fault::Lost(k)));
+    let shows = |fault: Fault| shows(list.n, &ran.compiled.ops, fault);
+    let single = turns(list.n, &ran.compiled.ops).into_iter().any(|k| shows(Fault::Lost(k)));
     if !faults.iter().all(|&fault| shows(fault)) || !single {
         return false;
     }
-    assert!(is_right(list, &ran, &right), "another Z:\n{list}");
-    assert!(add_run(out, &tape(list).expect("a tape"), list, &ran), "room for a tape");
-    let counts = FAULTS.iter().zip(&mut shown.faults);
-    counts.for_each(|(&fault, count)| *count += usize::from(shows(fault)));
-    let rows = asked::all(list, &ran).into_iter().filter_map(|asked| asked.row());
-    rows.for_each(|row| shown.rows[usize::from(row > 0)] += 1);
+    store(out, list, &ran, shown);
     true
+}
+
+/// Whether an engine with the fault gives another Z.
+fn shows(n: usize, ops: &[f64], fault: Fault) -> bool {
+    let apart = |(a, b): (f64, f64)| (a - b).abs() > CLEAR;
+    z(n, ops, Fault::None).into_iter().zip(z(n, ops, fault)).any(apart)
+}
+
+/// Adds a tape, and notes what it shows.
+fn store(out: &mut Records, list: &List, ran: &Ran, shown: &mut Shown) {
+    let ops = &ran.compiled.ops;
+    assert!(is_right(list, ran, &z(list.n, ops, Fault::None)), "another Z:\n{list}");
+    assert!(add_run(out, &tape(list).expect("a tape"), list, ran), "room for a tape");
+    for (fault, count) in FAULTS.into_iter().zip(&mut shown.faults) {
+        *count += usize::from(shows(list.n, ops, fault));
+    }
+    let rows = asked::all(list, ran).into_iter().filter_map(|asked| asked.row());
+    rows.for_each(|row| shown.rows[usize::from(row > 0)] += 1);
 }
 
 /// The engine written again gives the original's Z, and these are a state vector's.
