@@ -28,16 +28,18 @@ BOXES = {
     "num": (316, 470, 138, "numbers", ["root_is, root-unique,", "sqrt-max"], "num/proofs/*.antt"),
     "draws": (464, 355, 138, "a shot's own draws", ["own-draws"], "queries/proofs/Draws.antt"),
     # promise 4
-    "signs": (640, 50, 145, "Promise 4: the signs", ["signs, signs-in-slices,", "signs-by-calls"], "signs/proofs/Signs.antt"),
-    "lost": (795, 50, 145, "four lost turns", ["refused, own-effect,", "own-answers"], "signs/proofs/Refused.antt"),
-    "pulled": (640, 160, 145, "circuits", ["run_holds, slice-holds"], "signs/proofs/Runs.antt"),
-    "zprod": (795, 160, 145, "products of Z", ["z-product"], "signs/proofs/ZProducts.antt"),
-    "steps": (640, 260, 145, "one block", ["step-holds"], "signs/proofs/Steps.antt"),
-    "odd": (795, 260, 145, "who turns", ["float-odd, later"], "signs/proofs/*.antt"),
-    "row": (640, 360, 145, "bytes to parity", ["sign-row"], "rows/proofs/SignRun.antt"),
-    "never": (795, 360, 145, "the same, unturned", ["never-turned"], "rows/proofs/SignRow.antt"),
-    "beside": (640, 445, 145, "beside a plain engine", ["same-by-calls,", "always-same"], "postponed/proofs/*.antt"),
-    "faulty": (795, 445, 145, "false of wrong ones", ["own-same, refused"], "postponed/proofs/Refused.antt"),
+    "run4": (640, 50, 300, "Promise 4: run, jozkeral_run, ensures signs, plain", ["signs-of, plain-of, permuting-run; signs-told, plain-told"],
+             "gaussian/proofs/Signs.antt, engine/proofs/Claims.antt"),
+    "signs": (640, 135, 145, "circuits on modes", ["signs, signs-in-slices,", "signs-by-calls,", "blocks-stand"], "signs/proofs/*.antt"),
+    "lost": (795, 135, 145, "false of lost turns", ["refused, own-effect,", "own-answers"], "signs/proofs/Refused.antt"),
+    "pulled": (640, 245, 145, "lists of blocks", ["run_holds, slice-holds"], "signs/proofs/Runs.antt"),
+    "zprod": (795, 245, 145, "products of Z", ["z-product"], "signs/proofs/ZProducts.antt"),
+    "steps": (640, 325, 145, "one block", ["step-holds"], "signs/proofs/Steps.antt"),
+    "odd": (795, 325, 145, "who turns", ["float-odd, later"], "signs/proofs/*.antt"),
+    "row": (640, 405, 145, "bytes to parity", ["sign-row, far-row"], "rows/proofs/SignRun.antt"),
+    "never": (795, 405, 145, "false of lost turns, as runs", ["refused, own-signs"], "rows/proofs/Lost.antt"),
+    "beside": (640, 485, 145, "beside a plain engine", ["same-by-calls,", "always-same"], "postponed/proofs/*.antt"),
+    "faulty": (795, 485, 145, "false of wrong ones", ["own-same, refused"], "postponed/proofs/Refused.antt"),
     # promise 3
     "ccall": (20, 580, 455, "Promise 3: jozkeral_run, ensures register (CallClaim)", ["claim-told"], "engine/proofs/Claims.antt"),
     "wrong": (485, 580, 455, "Claimed of this engine, false of wrong ones", ["own-claimed, refused, no-room, unanswered"], "engines/proofs/Refused.antt"),
@@ -64,7 +66,7 @@ run calls, compile calls, asks calls, report compile, report run, evolve run, or
 pfaffian asks, classify resolve, tape resolve, num classify,
 claim ccall, claim wrong, accepted claim, answering claim, plain claim, numbered accepted, holds answering, told answering, tables answering, moved holds,
 follows holds, fits moved, fits follows, keeps follows, tapeplain plain,
-signs lost, beside faulty, pfaffian draws, pulled signs, zprod signs, steps pulled, odd pulled
+signs lost, signs run4, beside run4, row never, beside faulty, pfaffian draws, pulled signs, zprod signs, steps pulled, odd pulled
 """
 
 
