@@ -1,5 +1,6 @@
 -- The laws: on lists and slices, on tables, on floats, and on matrices in a slice. Assumes nothing.
 pub mod Tests
+pub mod Below
 pub mod Views
 pub mod Lists
 pub mod Slices

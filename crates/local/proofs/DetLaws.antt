@@ -7,7 +7,8 @@ use native.Mathlib.Omega.{arith}
 use lib.Dec.{eqb}
 use lib.ListN.{length}
 use lib.Ieee.{Float, neg}
-use Rattle.local.specs.Det.{Line, head_of, not_below, better_of, last_largest, pivot_row, other_rows, eliminated, pivoted}
+use Rattle.laws.specs.Lists.{pivot_row, other_rows}
+use Rattle.local.specs.Det.{Line, head_of, not_below, better_of, last_largest, eliminated, pivoted}
 use Rattle.local.specs.declared.det.Best.{Best}
 
 -- the pivot is one of the rows

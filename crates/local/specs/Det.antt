@@ -3,6 +3,7 @@
 use Rattle.std.specs.Prelude.{Bool, cond, ◌||◌, List, [], ◌∷◌, ℕ, zero, suc, eqb, Float}
 use Rattle.std.specs.Float.{nan, binary64}
 use Rattle.std.specs.Float.Ieee.{sub, mul, div, neg, lt, le, eq, is_nan}
+use Rattle.laws.specs.Lists.{pivot_row, other_rows}
 use Rattle.laws.specs.Views.{list_of}
 use Rattle.laws.specs.Zeros.{+0, +1}
 use Rattle.laws.specs.Matrix.{Mat}
@@ -36,25 +37,6 @@ better_of b i x = cond (not_below x b.head) (record { row = i; head = x }) b
 unfoldable pub last_largest : List Line → ℕ → Best → ℕ
 last_largest [] i b = b.row
 last_largest (r ∷ rs) i b = last_largest rs (suc i) (better_of b i (head_of r))
-
--- ---- the pivot row and the first row r change places
-
--- the pivot row
-abbrev pub pivot_row : ℕ → Line → List Line → Line
-pivot_row zero r rs = r
-pivot_row (suc p) r [] = r
-pivot_row (suc p) r (s ∷ rs) = pivot_row p s rs
-
--- r stands in the place of row p
-abbrev pub put : ℕ → Line → List Line → List Line
-put p r [] = []
-put zero r (s ∷ rs) = r ∷ rs
-put (suc p) r (s ∷ rs) = s ∷ put p r rs
-
--- the rows after it
-abbrev pub other_rows : ℕ → Line → List Line → List Line
-other_rows zero r rs = rs
-other_rows (suc p) r rs = put p r rs
 
 -- ---- the elimination
 

@@ -18,7 +18,8 @@ use Rattle.local.specs.declared.det.Best.{Best}
 use Rattle.signs.specs.Majoranas.{Four, c0, c1, c2, c3, num₁, num, Row}
 use Rattle.signs.specs.Circuits.{unit_row}
 use Rattle.signs.proofs.Permutations.{row, two_rows₁, two_rows₁→, four_rows, four_rows→, implies, by-implies, differ, distinct, odd₁, odd}
-use Rattle.local.specs.Det.{Line, head_of, tail_of, not_below, better_of, last_largest, pivot_row, put, other_rows, less, lowered_all, eliminated, lines, det}
+use Rattle.laws.specs.Lists.{pivot_row, put, other_rows}
+use Rattle.local.specs.Det.{Line, head_of, tail_of, not_below, better_of, last_largest, less, lowered_all, eliminated, lines, det}
 
 -- ---- equal up to the sign of a zero: rows, and lists of rows
 
