@@ -1,7 +1,6 @@
 -- Basis states under operations, and the answers of every query on them. Assumes nothing.
 pub mod Settling
 pub mod Steps
-pub mod First
 pub mod Pairs
 pub mod Listed
 pub mod Products

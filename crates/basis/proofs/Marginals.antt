@@ -24,7 +24,8 @@ use Rattle.queries.specs.Calls.{covariance_of, work_ok, worked, stopped_of, mark
 use Rattle.queries.proofs.Indices.{all_qubits, basis_bits, basis-is-marginal, qubits-long, bits-long, qubit-here, bit-here}
 use Rattle.basis.specs.Holds.{Reads}
 use Rattle.basis.specs.Answers.{differs, register_marginal, differs_from, register_probability}
-use Rattle.basis.proofs.Asked.{differs-each, differs-some, stopped-differs, asked-agrees, asked-differs, asked-small}
+use Rattle.queries.proofs.Stopping.{asked-small}
+use Rattle.basis.proofs.Asked.{differs-each, differs-some, stopped-differs, asked-agrees, asked-differs}
 use Rattle.basis.proofs.Marked.{marked-agrees, marked_differs}
 
 -- an answer under a test: not a refusal
@@ -45,7 +46,7 @@ module _ (n : ℕ) (b r : ℕ → Bool) (s : List Float) (modes : List ℕ) (R :
         by true d =
             let k = asked-differs n b r (covariance_of n s) modes R qs xs ok h d in
             marked_differs n b (covariance_of n s) R.covariance (asked modes qs xs) k.0 k.1.0
-            (asked-small n b r (covariance_of n s) modes R qs xs ok k.0) k.1.1
+            (asked-small modes qs xs ok k.0) k.1.1
         by false d =
             marked-agrees n b (covariance_of n s) R.covariance (asked modes qs xs)
             (λ k g. asked-agrees n b r (covariance_of n s) modes R qs xs ok h d k)

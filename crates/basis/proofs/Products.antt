@@ -29,7 +29,7 @@ use Rattle.queries.proofs.Rows.{product-number}
 use Rattle.basis.specs.Holds.{Reads}
 use Rattle.basis.specs.Answers.{odd_ones, register_product}
 use Rattle.basis.proofs.Pairs.{pf-signs}
-use Rattle.basis.proofs.First.{none_passes}
+use Rattle.queries.proofs.First.{none_passes}
 use Rattle.basis.proofs.Listed.{listed-basis, odd-first, odd-listed, odd-counted}
 
 -- ---- products

@@ -29,7 +29,7 @@ use Rattle.queries.proofs.Sampling.{draws-fit}
 use Rattle.queries.proofs.Draws.{sample-passed}
 use Rattle.basis.specs.Holds.{Reads}
 use Rattle.basis.specs.Answers.{shot_bit, register_low, register_high, register_shots}
-use Rattle.basis.proofs.First.{none_passes}
+use Rattle.queries.proofs.First.{none_passes}
 use Rattle.basis.proofs.Measured.{drawn-is, next-keeps}
 
 -- ---- one shot

@@ -18,7 +18,7 @@ use Rattle.state.specs.Modes.{is_permutation}
 use Rattle.queries.specs.Answers.{Number, without_row, given}
 use Rattle.queries.specs.Lists.{first, outside, bad_place, odd_modes, bits_ok, stop_place, asked, noted_modes}
 use Rattle.queries.specs.Basis.{basis_mark}
-use Rattle.basis.proofs.First.{first_passes, none_passes}
+use Rattle.queries.proofs.First.{first_passes, none_passes}
 use Rattle.state.specs.Questions.{state_ok}
 use Rattle.state.specs.Answers.{accepted, refused}
 use Rattle.state.proofs.Questions as questions

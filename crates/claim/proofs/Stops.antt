@@ -18,7 +18,7 @@ use Rattle.laws.proofs.Tests.{all_of, all-fails}
 use Rattle.state.specs.Modes.{is_permutation}
 use Rattle.state.proofs.Permutations.{mode-one}
 use Rattle.queries.specs.Lists.{mode_listed, noted, conflicts_of, contradicts, bit_listed, stop_place, asked, noted_modes}
-use Rattle.basis.proofs.Asked.{listed_below, no-contradiction, stop_hit, noted-place}
+use Rattle.queries.proofs.Stopping.{listed_below, no-contradiction, stop_hit, noted-place}
 use Rattle.queries.specs.Products.{dim_left}
 use Rattle.queries.specs.Calls.{work_ok}
 use Rattle.claim.specs.Questions.{has_places, left_of_marginal, contradict, agree, read_qubits_exist}

@@ -42,28 +42,28 @@ use Rattle.gaussian.proofs.Parities.{right-signs}
 -- ---- of a tape's report, program and state
 
 module _ (t : List ℕ) (h : Header) (c : Content) (parsed : parse t ≡ accepted h c) (ops s : List Float) (room : state_places (dim_of h.n) ≤ length s) where
-  abbrev program : List Operation
+  abbrev pub program : List Operation
   program = program_of h c.gates
 
-  abbrev left : List Float
+  abbrev pub left : List Float
   left = stored (dim_of h.n) (evolved h.n program) s
 
   -- the operations in the slice
-  abbrev held : List (List Float)
+  abbrev pub held : List (List Float)
   held = held_in (reported_of h c.gates).operations (written program ops)
 
   -- what the caller has in hand
-  abbrev in_hand : Left
+  abbrev pub in_hand : Left
   in_hand = left_by (done (reported_of h c.gates)) left
 
   module _ (modes : List ℕ) (lent : Begins h.n (reported_of h c.gates).modes modes) where
     passes : state_ok h.n left modes ≡ true
     passes = passes-sixteen t h c parsed s room modes lent
 
-    before : state_ok h.n s modes ≡ true
+    pub before : state_ok h.n s modes ≡ true
     before = still-ok h.n modes s left (sym (stored-long (dim_of h.n) (evolved h.n program) s left room refl)) passes
 
-    calls : called h.n modes held (stored (dim_of h.n) vacuum s) ≡ left
+    pub calls : called h.n modes held (stored (dim_of h.n) vacuum s) ≡ left
     calls =
         ap (λ l. called h.n modes l (stored (dim_of h.n) vacuum s))
         (written-held (reported_of h c.gates).operations program ops (reported-operations h c.gates))
@@ -89,7 +89,7 @@ module _ (t : List ℕ) (h : Header) (c : Content) (parsed : parse t ≡ accepte
 module _ (t : List ℕ) (work : List Float) (marks : List ℕ) (ops state : List Float) (r : Compiled) (os s : List Float) (e : r ≡ ran t work marks ops state)
     (f : os ≡ ran_ops t work marks ops state) (g : s ≡ ran_state t work marks ops state) where
   -- what holds of the report, program and state of every tape holds of what an accepted run gives and leaves
-  of_run : (Claim : Left → ℕ → List Float → Type 0)
+  pub of_run : (Claim : Left → ℕ → List Float → Type 0)
       → ((h : Header) (c : Content) → parse t ≡ accepted h c → (ops s : List Float) → state_places (dim_of h.n) ≤ length s
       → Claim (left_by (done (reported_of h c.gates)) (stored (dim_of h.n) (evolved h.n (program_of h c.gates)) s)) (reported_of h c.gates).operations
       (written (program_of h c.gates) ops))

@@ -57,7 +57,7 @@ module _ (n : ℕ) (s : List Float) (modes : List ℕ) (shots : ℕ) (draws w : 
         by true false c d p q r t e = absurd (omega (arith, e))
         by false b c d p q r t e = absurd (omega (arith, e))
 
-    words-are : (i j : ℕ) → i < shots → j < 2
+    pub words-are : (i j : ℕ) → i < shots → j < 2
         → get_or (sample_out n s modes shots draws w out) (2 * i + j) 0 ≡ word_at (shot_at (covariance_of n s) n modes draws i) j
     unfolding sample_out shots_out sampled shots_ok
     words-are i j l b =

@@ -1,6 +1,8 @@
 -- Laws on the definitions of `queries`, for other crates to cite. Assumes nothing.
 pub mod Searches
+pub mod First
 pub mod Marking
+pub mod Stopping
 pub mod Filling
 pub mod Leaving
 pub mod Sampling

@@ -1,5 +1,5 @@
--- Covariances that are equal up to the sign of a zero give the same answers: products up to that sign, with the same rows; marginals and shots exactly.
--- Assumes nothing.
+-- Covariances that are equal up to the sign of a zero give the same answers: products up to that sign, with the same rows; marginals and shots exactly. Of
+-- covariances that are equal, products are equal. Assumes nothing.
 use mathlib.Core.Path.{◌≡◌, refl, sym, ap, ◌∙◌}
 use mathlib.Core.Bool.{false, cond, ◌&&◌}
 use mathlib.Core.List.{List}
@@ -17,7 +17,7 @@ use Rattle.pfaffian.specs.declared.pairs.End.{End}
 use Rattle.pfaffian.specs.declared.pairs.End.TheVariants.{Value, Stopped}
 use Rattle.pfaffian.specs.Shot.{half, draw_from}
 use Rattle.pfaffian.proofs.Seen.{Alike}
-use Rattle.pfaffian.proofs.Congruent.{seen_of, pfaffian-cong}
+use Rattle.pfaffian.proofs.Congruent.{seen_of, pfaffian-same, pfaffian-cong}
 use Rattle.pfaffian.proofs.SameShots.{shot-cong}
 use Rattle.queries.specs.Answers.{rowless, taken_apart}
 use Rattle.queries.specs.Lists.{passing, odd_mode, odd_modes, noted_modes}
@@ -64,14 +64,29 @@ seen-marginal s p q h = seen p ∙ ap (taken_apart (λ x. at_least_zero_of (mul 
     seen (Value x) = ap rowless (positive-cong (mul binary64 s x) (mul binary64 s (nz x)) (mul-cong s x s (nz x) refl (sym (nz-nz x))))
     seen (Stopped k) = refl
 
-module _ (e e' : Mat) (n : ℕ) (h : Alike nz 0 (2 * n) e e') where
-  -- modes below n
-  module _ (l : List ℕ) (below : (j : ℕ) → j < length l → get_or l j 0 < n) where
-    row_below : (r : ℕ) → r < dim_left l → index_of l r < 2 * n
-    row_below r b = omega (arith, below (r / 2) (omega arith))
+-- ---- modes below n
 
+module _ (v : Float → Float) (e e' : Mat) (n : ℕ) (h : Alike v 0 (2 * n) e e') (l : List ℕ) (below : (j : ℕ) → j < length l → get_or l j 0 < n) where
+  row_below : (r : ℕ) → r < dim_left l → index_of l r < 2 * n
+  row_below r b = omega (arith, below (r / 2) (omega arith))
+
+  restricted-seen : Alike v 0 (dim_left l) (restricted e l) (restricted e' l)
+  restricted-seen r c lr hr lc hc = h (index_of l r) (index_of l c) (omega arith) (row_below r hr) (omega arith) (row_below c hc)
+
+-- of equal covariances the product is equal
+pub product-same : (e e' : Mat) (n : ℕ) → Alike (λ x. x) 0 (2 * n) e e' → (modes qs : List ℕ)
+    → product_of e (odd_modes n modes qs) ≡ product_of e' (odd_modes n modes qs)
+unfolding product_of odd_modes
+product-same e e' n h modes qs =
+    let odd = odd_mode modes qs (length qs) in
+    let l = passing odd n in
+    ap (taken_apart (λ x. x))
+    (pfaffian-same (restricted e l) (restricted e' l) (dim_left l) (restricted-seen (λ x. x) e e' n h l (passing-ascends odd n).below))
+
+module _ (e e' : Mat) (n : ℕ) (h : Alike nz 0 (2 * n) e e') where
+  module _ (l : List ℕ) (below : (j : ℕ) → j < length l → get_or l j 0 < n) where
     restricted-cong : Alike nz 0 (dim_left l) (restricted e l) (restricted e' l)
-    restricted-cong r c lr hr lc hc = h (index_of l r) (index_of l c) (omega arith) (row_below r hr) (omega arith) (row_below c hc)
+    restricted-cong = restricted-seen nz e e' n h l below
 
     pub product-cong : (nz (product_of e l).value ≡ nz (product_of e' l).value) × ((product_of e l).row ≡ (product_of e' l).row)
     unfolding product_of
