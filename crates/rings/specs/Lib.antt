@@ -1,0 +1,2 @@
+-- What a ring is. Definitions only.
+pub mod Rings
