@@ -3,7 +3,7 @@
 -- in both, zero signs aside, all NaNs being one." Any maps are meant: odd ones, NaN, infinities. What the two share is not tested by it: how an operation is
 -- read, the vacuum, what a map does to rows and columns, whether a determinant is below zero, and the queries. That all later modes turn stands in each by
 -- itself, so that only the same error in both would pass. Of signed permutations the sign theorem says that both are right; of other maps they are the
--- definition. Assumes nothing. A public promise rests on this.
+-- definition, and the plain one's formula is, in exact numbers, quantum mechanics (crate `angles`). Assumes nothing. A public promise rests on this.
 use Rattle.std.specs.Prelude.{◌≡◌, true, List, ℕ, ◌<◌, Float}
 use Rattle.laws.specs.Lists.{All, in_order}
 use Rattle.laws.specs.Zeros.{+1, nz}
