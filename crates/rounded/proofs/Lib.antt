@@ -1,0 +1,12 @@
+-- The engine is the formula at binary64, from one map to the answers of calls and of runs. Assumes nothing.
+pub mod AtZero
+pub mod Steps
+pub mod Determinants
+pub mod Operations
+pub mod Products
+pub mod Marginals
+pub mod Shots
+pub mod Matrices
+pub mod Majorana
+pub mod Calls
+pub mod Runs
