@@ -1,8 +1,9 @@
 #!/bin/sh
 # Builds the oracle and checks it: the two module trees agree, the plain engine
 # agrees with the original, Pauli strings with matrices and a state vector, the
-# original agrees with a state vector on the edge cases and on COUNT random lists
-# of each family (4000 if it is not given), and the stored lists are what it gives.
+# engine's formula with quantum mechanics in exact numbers, the original with a
+# state vector on the edge cases and on COUNT random lists of each family (4000 if
+# it is not given), and the stored lists are what it gives.
 #   tests/oracle/check.sh ORIGINAL_DIR [COUNT]
 set -eu
 ROOT=$(cd "$(dirname "$0")/../.." && pwd)
@@ -10,6 +11,7 @@ ROOT=$(cd "$(dirname "$0")/../.." && pwd)
 original_at "${1-}"
 build tests/oracle
 "$ORACLE" selftest 1 1000
+"$ORACLE" exact 1 2000
 echo edges
 "$ORACLE" vector "$ROOT/tests/oracle/lists/edges.txt"
 "$ORACLE" reader "$ROOT"/crates/replay_tape/data/*.bin

@@ -4,7 +4,7 @@ use oracle::families::FAMILIES;
 use oracle::list::{parse_many, List, SEPARATOR};
 use oracle::rng::Rng;
 use oracle::{
-    check, classify, compiled, families, fused, leaves, plain, printed, run, runs, selftest,
+    check, classify, compiled, exact, families, fused, leaves, plain, printed, run, runs, selftest,
     state_lists, stored_tapes, strings, tape,
 };
 use std::io::{self, BufWriter, Read, Write};
@@ -18,6 +18,7 @@ oracle families                  the names of the families
 oracle vector FILE               the answers beside those of a state vector
 oracle selftest SEED COUNT       the module trees beside each other, the plain engine beside the original, strings beside matrices and
                                  a state vector: COUNT lists a family
+oracle exact SEED COUNT          the engine's formula beside quantum mechanics in exact numbers: COUNT lists of gates in each of four kinds of numbers
 oracle reader FILE ..            the plain reader of tapes beside the stored answers of the one in Python
 oracle leaves [products]         the stored list of leaf results, or its second part, in binary
 oracle fuse LIST                 the stored list LIST of tapes and their items, in binary: cuts, mixed, angled or ties
@@ -60,6 +61,7 @@ fn command(words: &[&str]) -> Result<bool, String> {
         ["families"] => Ok(FAMILIES.iter().all(|row| writeln!(io::stdout(), "{}", row.0).is_ok())),
         ["vector", file] => vector(file),
         ["selftest", seed, count] => selftest(number(seed)?, number(count)?),
+        ["exact", seed, count] => Ok(exact::compare(number(seed)?, number(count)?)),
         ["reader", files @ ..] => reader(files),
         ["leaves"] => write_out(&leaves::leaves()).map(|()| true),
         ["leaves", "products"] => write_out(&leaves::more_products()).map(|()| true),

@@ -1,36 +1,12 @@
 //! Another simulator: the plain state vector, with gate matrices of its own.
 //! Qubit q is bit q of a basis index.
 
+use crate::complex::{complex, Complex};
 use original::gate::Gate;
 use std::f64::consts::{FRAC_1_SQRT_2, FRAC_PI_4};
-use std::ops::{Add, Mul};
 
 /// The widest register it takes.
 pub const WIDEST: usize = 12;
-
-#[derive(Clone, Copy)]
-struct Complex {
-    re: f64,
-    im: f64,
-}
-
-impl Add for Complex {
-    type Output = Complex;
-    fn add(self, y: Complex) -> Complex {
-        complex(self.re + y.re, self.im + y.im)
-    }
-}
-
-impl Mul for Complex {
-    type Output = Complex;
-    fn mul(self, y: Complex) -> Complex {
-        complex(self.re * y.re - self.im * y.im, self.re * y.im + self.im * y.re)
-    }
-}
-
-const fn complex(re: f64, im: f64) -> Complex {
-    Complex { re, im }
-}
 
 /// The number of absolute value 1 and the given angle.
 fn turn(angle: f64) -> Complex {
