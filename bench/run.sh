@@ -3,13 +3,13 @@
 # instructions than recorded.
 #   bench/run.sh ORIGINAL_DIR [PART ..]
 # The parts are compare (leaves, and calls on states), compile, runs, plain (the engine beside the plain one), strings (runs beside Pauli
-# strings), time, memory and count; all of them if none is named.
+# strings), angles (runs beside a state vector), time, memory and count; all of them if none is named.
 set -eu
 ROOT=$(cd "$(dirname "$0")/.." && pwd)
 . "$ROOT/tests/oracle/env.sh"
 original_at "${1-}"
 shift
-PARTS="compare compile runs plain strings time memory count"
+PARTS="compare compile runs plain strings angles time memory count"
 for part; do
     case " $PARTS " in
     *" $part "*) ;;
@@ -22,7 +22,7 @@ for part; do
     case $part in
     compare) "$BENCH" compare 100000 100000 ;;
     compile | runs | plain) "$BENCH" "$part" 20000 ;;
-    strings) "$BENCH" strings 10000 ;;
+    strings | angles) "$BENCH" "$part" 10000 ;;
     time) "$BENCH" time ;;
     memory) "$MEMORY" ;;
     count) "$ROOT/bench/count.sh" "$QSIM_SRC" ;;

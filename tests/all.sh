@@ -20,6 +20,7 @@ and beside the original, if ORIGINAL_DIR names the folder that holds its src/gat
   bench_runs     the same of whole runs
   bench_plain    the engine beside the plain one
   bench_strings  runs beside signed Pauli strings
+  bench_angles   runs at any angle beside a state vector
   bench_count    the port's instructions beside the recorded ones: bench/count.sh
 Each part prints its verdict and its time; what it said is in target/all/PART.log. The last lines are a table of them all.
 The library is built first if it is older than a source, which proves the engine. The status is 1 if a part failed, 2 if
@@ -82,7 +83,7 @@ part host tests/host.sh
 part abi tests/abi/run.sh
 beside oracle tests/oracle/check.sh
 beside compare_host tests/oracle/compare_host.sh
-for piece in compare compile runs plain strings count; do
+for piece in compare compile runs plain strings angles count; do
     beside bench_$piece bench/run.sh $piece
 done
 

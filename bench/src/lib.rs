@@ -1,5 +1,6 @@
 //! Original and port in one process: the same bits, then time, instructions and memory.
 
+pub mod angles;
 mod asks;
 pub mod callgrind;
 pub mod circuits;
@@ -17,12 +18,12 @@ mod pieces;
 pub mod plain;
 pub mod plot;
 mod port;
+mod ran;
 mod rows;
 pub mod runs;
 mod slice;
 mod states;
 pub mod strings;
-mod table;
 pub mod times;
 
-pub use oracle::layout;
+pub use oracle::{layout, table};

@@ -1,6 +1,8 @@
-//! The program `bench`: original and port in one process, the engine beside the plain one, and runs beside Pauli strings.
+//! The program `bench`: original and port in one process, the engine beside the plain one, and runs beside Pauli strings and a state vector.
 
-use bench::{callgrind, compare, compile, counts, growth, plain, plot, runs, strings, times};
+use bench::{
+    angles, callgrind, compare, compile, counts, growth, plain, plot, runs, strings, times,
+};
 use oracle::rng::Rng;
 use std::process::ExitCode;
 
@@ -10,6 +12,7 @@ bench compile LISTS         compares the answers of compile to LISTS random list
 bench runs LISTS            compares whole runs and queries: LISTS random lists of each family, all short lists, damaged tapes
 bench plain LISTS           compares the engine with the plain one: LISTS random lists of operations of each family
 bench strings LISTS         compares runs with signed Pauli strings: LISTS random lists of each family
+bench angles LISTS          compares runs on given matrices of any angle with a state vector: LISTS random lists of each family
 bench time                  the table of times
 bench time compile          the lines for compile alone
 bench time compile PART     those whose name has this part, with the heap as it is in a new process
@@ -45,6 +48,10 @@ fn main() -> ExitCode {
         },
         ["strings", lists] => match lists.parse() {
             Ok(lists) => end(strings::compare(&mut Rng::new(SEED), lists)),
+            _ => usage(),
+        },
+        ["angles", lists] => match lists.parse() {
+            Ok(lists) => end(angles::compare(&mut Rng::new(SEED), lists)),
             _ => usage(),
         },
         ["time", ..] => time(&words[1..]),

@@ -1,6 +1,6 @@
 //! What is asked of a run, with the values of the strings of its operations.
 
-use super::ran::{product, Ran};
+use crate::ran::{product, Ran};
 use crate::slice::Slice;
 use oracle::plain::covariance;
 use oracle::query::Query;

@@ -3,10 +3,10 @@
 //! dropped, a product is that of the tape's own gates on qubits.
 
 mod asked;
-mod ran;
 mod seen;
 
 use crate::compare::Tally;
+use crate::ran::Ran;
 use crate::runs::case::Case;
 use asked::{Asked, Values};
 use oracle::list::List;
@@ -14,7 +14,7 @@ use oracle::query::Query;
 use oracle::rng::Rng;
 use oracle::strings::lists::{is_rounded, wide, FAMILIES};
 use oracle::strings::{blocks, gates};
-use ran::Ran;
+
 use seen::{Count::*, Seen};
 
 /// Wide lists for each thousand of the others.
@@ -78,7 +78,7 @@ impl All {
             false => Case::plain(list.clone()),
         };
         self.seen.note(Tapes, 1);
-        let Some(ran) = Ran::of(&case.tape(), list.n) else { return };
+        let Ok(ran) = Ran::of(&case.tape(), list.n) else { return };
         self.seen.note(Accepted, 1);
         self.seen.note(Dropped, (!ran.exact).into());
         let told = |what: String| format!(" {family}: {what}\n{list}");

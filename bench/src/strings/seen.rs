@@ -2,8 +2,8 @@
 //! is told from the strings. A comparison that no fault could fail would show nothing.
 
 use super::asked::Values;
-use super::ran::Ran;
 use crate::layout::OP_PLACES;
+use crate::ran::Ran;
 use crate::table;
 use oracle::list::List;
 use oracle::runs::faults::{covariance, turns, Fault, FAULTS};

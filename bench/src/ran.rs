@@ -24,14 +24,14 @@ pub struct Ran {
 }
 
 impl Ran {
-    /// None if the tape is refused.
-    pub fn of(tape: &[u8], n: usize) -> Option<Ran> {
+    /// The number of a refusal, if the tape is refused.
+    pub fn of(tape: &[u8], n: usize) -> Result<Ran, u64> {
         let gates = gates_on(tape);
         let mut lent = Lent::new(gates, n, RECORD_OPS * (gates + n), gates % 3);
         let told = lent.run(tape);
         match told.refused {
             [0, 0] => {}
-            [question::APART..=question::LIMIT, 0] => return None,
+            [number @ question::APART..=question::LIMIT, 0] => return Err(number),
             other => panic!("a good tape is refused by {other:?}"),
         }
         let report = &told.report;
@@ -42,7 +42,7 @@ impl Ran {
         let places = lent.state()[..state_places(n)].to_vec();
         let slice = Slice { n, places, modes: report.modes().to_vec() };
         let exact = report.words[word::EXACT] == 1;
-        Some(Ran { modes: slice.mode_of_qubit(), slice, ops: ops.to_vec(), exact, readable, kept })
+        Ok(Ran { modes: slice.mode_of_qubit(), slice, ops: ops.to_vec(), exact, readable, kept })
     }
 
     /// The same with the matrix of another state, and signs that are all 1.0.
