@@ -7,7 +7,7 @@ import re
 import sys
 
 ROOT = os.path.join(os.path.dirname(os.path.abspath(__file__)), "..")
-WIDTH, HEIGHT, LINE, PAD = 960, 1165, 15, 7
+WIDTH, HEIGHT, LINE, PAD = 960, 1435, 15, 7
 
 # name: left, top, width, title, clauses or laws, file below crates/ (a * stands for several)
 BOXES = {
@@ -40,25 +40,36 @@ BOXES = {
     "never": (795, 405, 145, "false of lost turns, as runs", ["refused, own-signs"], "rows/proofs/Lost.antt"),
     "beside": (640, 485, 145, "beside a plain engine", ["same-by-calls,", "always-same"], "postponed/proofs/*.antt"),
     "faulty": (795, 485, 145, "false of wrong ones", ["own-same, refused"], "postponed/proofs/Refused.antt"),
+    # promise 4 in exact numbers
+    "answered": (20, 570, 275, "Promise 4, every angle: queries, by qubits", ["query-theorem, shot-theorem;",
+                 "on real numbers: real-answer-theorem"], "answers/proofs/*.antt"),
+    "fused": (335, 570, 275, "fusing, renaming, circuits", ["every-fused, alike-right,", "swaps-may-be-renamings, circuit-theorem"],
+              "matchgates/proofs/*.antt"),
+    "rounded": (650, 570, 290, "the engine is the formula at binary64", ["rounded-by-calls, rounded-runs,", "rounded-maps"], "rounded/proofs/*.antt"),
+    "wick": (20, 670, 275, "products", ["wick-theorem, z-theorem, pfaffian-theorem"], "angles/proofs/*.antt"),
+    "gates": (335, 670, 275, "gates by their matrices", ["gate-theorem, residual-tells"], "matchgates/proofs/*.antt"),
+    "refute": (650, 670, 290, "false of lost turns, at an angle", ["angles-refute"], "angles/proofs/Lost.antt"),
+    "angles": (20, 755, 920, "every angle: entries, parities; postponed signs are signs", ["angle-theorem, own-angle-theorem, for-matrices; postponed"],
+               "angles/proofs/*.antt"),
     # promise 3
-    "ccall": (20, 580, 455, "Promise 3: jozkeral_run, ensures register (CallClaim)", ["claim-told"], "engine/proofs/Claims.antt"),
-    "wrong": (485, 580, 455, "Claimed of this engine, false of wrong ones", ["own-claimed, refused, no-room, unanswered"], "engines/proofs/Refused.antt"),
-    "claim": (20, 675, 920, "run, ensures register: RegisterClaim, one page, crates/gaussian/specs/Claim.antt", ["register-claim"],
+    "ccall": (20, 850, 455, "Promise 3: jozkeral_run, ensures register (CallClaim)", ["claim-told"], "engine/proofs/Claims.antt"),
+    "wrong": (485, 850, 455, "Claimed of this engine, false of wrong ones", ["own-claimed, refused, no-room, unanswered"], "engines/proofs/Refused.antt"),
+    "claim": (20, 945, 920, "run, ensures register: RegisterClaim, one page, crates/gaussian/specs/Claim.antt", ["register-claim"],
               "gaussian/proofs/Claim.antt"),
-    "accepted": (20, 770, 145, "accepted runs", ["run-says,", "run-accepted"], "gaussian/proofs/Accepted.antt"),
-    "answering": (175, 770, 610, "every list of queries, refused only by its own questions", ["answers-right, tape-answers, answered-exactly"],
+    "accepted": (20, 1040, 145, "accepted runs", ["run-says,", "run-accepted"], "gaussian/proofs/Accepted.antt"),
+    "answering": (175, 1040, 610, "every list of queries, refused only by its own questions", ["answers-right, tape-answers, answered-exactly"],
                   "claim/proofs/*.antt"),
-    "plain": (795, 770, 145, "must be accepted", ["plain-free"], "claim/proofs/Plain.antt"),
-    "numbered": (20, 880, 145, "no refusal is 0", ["parse-numbered"], "tape/proofs/Numbers.antt"),
-    "tables": (175, 880, 145, "mode table", ["lent-permutes,", "table-permutes"], "claim/proofs/Tables.antt"),
-    "told": (330, 880, 145, "answers on bits", ["product-told,", "marginal-told,", "sample-told"], "basis/proofs/*.antt"),
-    "holds": (485, 880, 300, "the state holds the register's bits", ["tape-holds"], "claim/proofs/Tapes.antt"),
-    "tapeplain": (795, 880, 145, "plain tapes", ["tape-plain"], "register/proofs/Tapes.antt"),
-    "moved": (485, 980, 145, "items move bits", ["items-hold"], "claim/proofs/Items.antt"),
-    "follows": (640, 980, 145, "items and register", ["tape-follows"], "register/proofs/Tapes.antt"),
-    "fits": (330, 1075, 300, "register blocks, by computation", ["residual-fits, moves-basis, classify-fits,", "classify-unfit, classify-swapped"],
+    "plain": (795, 1040, 145, "must be accepted", ["plain-free"], "claim/proofs/Plain.antt"),
+    "numbered": (20, 1150, 145, "no refusal is 0", ["parse-numbered"], "tape/proofs/Numbers.antt"),
+    "tables": (175, 1150, 145, "mode table", ["lent-permutes,", "table-permutes"], "claim/proofs/Tables.antt"),
+    "told": (330, 1150, 145, "answers on bits", ["product-told,", "marginal-told,", "sample-told"], "basis/proofs/*.antt"),
+    "holds": (485, 1150, 300, "the state holds the register's bits", ["tape-holds"], "claim/proofs/Tapes.antt"),
+    "tapeplain": (795, 1150, 145, "plain tapes", ["tape-plain"], "register/proofs/Tapes.antt"),
+    "moved": (485, 1250, 145, "items move bits", ["items-hold"], "claim/proofs/Items.antt"),
+    "follows": (640, 1250, 145, "items and register", ["tape-follows"], "register/proofs/Tapes.antt"),
+    "fits": (330, 1345, 300, "register blocks, by computation", ["residual-fits, moves-basis, classify-fits,", "classify-unfit, classify-swapped"],
              "monomial/proofs/*.antt"),
-    "keeps": (640, 1075, 300, "fusing, in any monoid", ["fused_keeps, compressed-keeps"], "register/proofs/*.antt"),
+    "keeps": (640, 1345, 300, "fusing, in any monoid", ["fused_keeps, compressed-keeps"], "register/proofs/*.antt"),
 }
 
 ARROWS = """
@@ -66,7 +77,8 @@ run calls, compile calls, asks calls, report compile, report run, evolve run, or
 pfaffian asks, classify resolve, tape resolve, num classify,
 claim ccall, claim wrong, accepted claim, answering claim, plain claim, numbered accepted, holds answering, told answering, tables answering, moved holds,
 follows holds, fits moved, fits follows, keeps follows, tapeplain plain,
-signs lost, signs run4, beside run4, row never, beside faulty, pfaffian draws, pulled signs, zprod signs, steps pulled, odd pulled
+signs lost, signs run4, beside run4, row never, beside faulty, pfaffian draws, pulled signs, zprod signs, steps pulled, odd pulled,
+wick answered, fused answered, gates fused, angles wick, angles gates, angles refute
 """
 
 

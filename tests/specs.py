@@ -22,8 +22,15 @@ CALLS = {
     "text": ["print_tape"],
     "engine": None,
 }
-THEOREMS = [("engines", "Engines"), ("signs", "Signs"), ("signs", "Engines"), ("postponed", "Beside"), ("postponed", "Engines"), ("queries", "Draws"),
-            ("rows", "Lost")]
+# the pages of the theorems, by crate
+PAGES = {
+    "engines": ["Engines"], "signs": ["Signs", "Engines"], "postponed": ["Beside", "Engines"], "queries": ["Draws"], "rows": ["Lost"],
+    "angles": ["Postponed", "Matrices", "Angles", "Wick", "Lost"],
+    "matchgates": ["Gates", "Residuals", "InWords", "Fused", "Renamed", "Regrouped", "Phases", "Compiled", "OnReals"],
+    "answers": ["Products", "Marginals", "Asked", "Shots", "OnReals"],
+    "rounded": ["Steps", "Determinants", "Operations", "Products", "Marginals", "Shots", "Matrices", "Majorana", "Calls", "Runs"],
+}
+THEOREMS = [(crate, page) for crate, pages in PAGES.items() for page in pages]
 
 USE = re.compile(r"^(?:ghost )?use Rattle\.([a-z_0-9]+)\.(specs|proofs)\.([A-Za-z0-9_.-]+?)(?:\.\{([^}]*)\}| as (\S+))?;?$")
 CALL = re.compile(r"^pub (?:extern \"C\" )?fn ([a-z_0-9]+)\(.*?^\{$", re.M | re.S)
@@ -124,7 +131,7 @@ def main():
     os.chdir(os.path.join(os.path.dirname(os.path.abspath(__file__)), ".."))
     found = files()
     carrying = promised(found)
-    faults = []
+    faults = [f"{path_of(key)}: no such page" for key in THEOREMS if key not in found]
     for key, text in sorted(found.items()):
         path, sentence = path_of(key), PROMISE if key in carrying else INNER
         faults += [f"{path} reaches into proofs: {use[0]}.{use[2]}" for use in uses(text) if use[1] == "proofs" and use[0] != "std"]
