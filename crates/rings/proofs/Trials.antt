@@ -16,7 +16,7 @@ pub record Placed (M : Type 0) : Type 0 where
 
 module _ {M : Type 0} (𝓜 : Placed M) where
   -- a test of all
-  abbrev all : (M → Bool) → Bool
+  abbrev pub all : (M → Bool) → Bool
   all f = all_below (λ k. f (𝓜.from k)) 𝓜.p
 
   pub every : (f : M → Bool) → all f ≡ true → (s : M) → f s ≡ true
