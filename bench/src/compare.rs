@@ -48,6 +48,11 @@ impl Tally {
         println!("{:<12} {} compared, {} differ", self.name, self.compared, self.differ);
         self.compared > 0 && self.differ == 0
     }
+
+    /// Prints every count; whether all are well.
+    pub fn end_all(tallies: impl IntoIterator<Item = Tally>) -> bool {
+        tallies.into_iter().map(Tally::end).fold(true, |all, well| all & well)
+    }
 }
 
 /// Compares every function, `count` roots and as many of each of the others as `others` says.
@@ -102,7 +107,7 @@ fn scalars(rng: &mut Rng, count: usize) -> bool {
             clamp.add(&[&[x, lo, hi]], &[x.clamp(lo, hi)], &[leaf_clamp(x, lo, hi)]);
         }
     }
-    tallies.into_iter().map(Tally::end).fold(true, |all, well| all & well)
+    Tally::end_all(tallies)
 }
 
 fn of_two<const N: usize>(

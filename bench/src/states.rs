@@ -50,7 +50,7 @@ pub fn compare(rng: &mut Rng, count: usize) -> bool {
             one_of_each(rng, slice, &op, &mut tallies);
         }
     }
-    tallies.into_iter().map(Tally::end).fold(true, |all, well| all & well)
+    Tally::end_all(tallies)
 }
 
 /// A state with any floats, not antisymmetric; of one in three few values, so that the Pfaffian stops in every row.

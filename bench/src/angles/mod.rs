@@ -73,7 +73,7 @@ pub fn compare(rng: &mut Rng, count: usize) -> bool {
         }
     }
     families.push(("gates", std::mem::take(&mut all.seen)));
-    let well = all.tallies.into_iter().map(Tally::end).fold(true, |all, well| all & well);
+    let well = Tally::end_all(all.tallies);
     well & seen::end(&families)
 }
 

@@ -55,7 +55,7 @@ pub fn compare(rng: &mut Rng, count: usize) -> bool {
         (name, seen)
     });
     let tallies = all.steps.into_iter().chain(all.queries);
-    let well = tallies.map(Tally::end).fold(true, |all, well| all & well);
+    let well = Tally::end_all(tallies);
     well & all.draws.end() & seen::end(&families)
 }
 

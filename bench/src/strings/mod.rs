@@ -59,7 +59,7 @@ pub fn compare(rng: &mut Rng, count: usize) -> bool {
     let few = (count * WIDE).div_ceil(1000);
     (0..few).for_each(|_| all.case(rng, "wide", &|rng| (wide(rng), false)));
     families.push(("wide", std::mem::take(&mut all.seen)));
-    let well = all.tallies.into_iter().map(Tally::end).fold(true, |all, well| all & well);
+    let well = Tally::end_all(all.tallies);
     well & seen::end(&families)
 }
 
