@@ -24,7 +24,8 @@ CALLS = {
 }
 # the pages of the theorems, by crate
 PAGES = {
-    "engines": ["Engines"], "signs": ["Signs", "Engines"], "postponed": ["Beside", "Engines"], "queries": ["Draws"], "rows": ["Lost"],
+    "engines": ["Engines"], "signs": ["Signs", "Engines"], "postponed": ["Beside", "Engines"], "queries": ["Draws"], "text": ["HalfEven"],
+    "rows": ["Lost"],
     "angles": ["Postponed", "Matrices", "Angles", "Wick", "Lost"],
     "matchgates": ["Gates", "Residuals", "InWords", "Fused", "Renamed", "Regrouped", "Phases", "Compiled", "OnReals"],
     "answers": ["Products", "Marginals", "Asked", "Shots", "OnReals"],

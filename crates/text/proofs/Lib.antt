@@ -2,6 +2,7 @@
 pub mod Decimals
 pub mod Pieces
 pub mod Rounding
+pub mod HalfEven
 pub mod Values
 pub mod Lengths
 pub mod Few

@@ -1,53 +1,76 @@
--- Rounding depends on the fraction only, and of one whose divisor is a power of two it is found with ten places cut off first. Assumes nothing.
-use mathlib.Core.Path.{◌≡◌, sym, ap, ◌∙◌}
-use Prim.Native.Nat.{ℕ, ◌+◌, ◌-◌, ◌*◌, ◌/◌, ◌%◌, ◌^◌, ◌≤◌, ◌<◌}
-use native.Mathlib.Nat.{add-div_right, div-div-eq-div-mul, div-eq_of_lt}
+-- What rounding makes of a fraction, by what is cut off; it depends on the fraction only. Assumes nothing.
+use mathlib.Core.Path.{◌≡◌, refl, sym, ap, ◌∙◌}
+use mathlib.Core.Bool.{Bool, true, false, cond}
+use Prim.Native.Nat.{ℕ, ◌+◌, ◌*◌, ◌/◌, ◌%◌, ◌≤◌, ◌<◌}
+use native.Mathlib.Nat.{div-add-mod, div-eq_of_lt, mod-eq_of_lt, mod-lt, lt_of_mul-lt-mul_right, mul-lt-mul_of_pos_right}
 use native.Mathlib.Omega.{arith}
-use lib.Pow.{pow_pos, pow-add, pow_mono}
+use lib.Dec.{ltb}
 use lib.Ieee.Nearest.{div_same}
-use Rattle.text.specs.Millionths.{rounded, million}
+use Rattle.std.proofs.lemmas.Bool.{lt-ltb, le-ltb, ltb-true, ltb_from_iff}
+use Rattle.text.specs.Millionths.{rounded}
 
--- m * 10 ^ 6 / 2 ^ 10
-abbrev pub cut : ℕ → ℕ
-cut m = m / 1024 * million + m % 1024 * million / 1024
+-- ---- by what is cut off
 
-cut-is : (m : ℕ) → m * million / 1024 ≡ cut m
-cut-is m = omega arith
+-- whether it is below a half, whether it is above one, and the quotient
+abbrev by : Bool → Bool → ℕ → ℕ
+by below above cut = cond below cut (cond above (cut + 1) (cut + cut % 2))
 
--- ---- equal fractions
+-- the same three, in whatever form
+rounded-by : (num den : ℕ) {below above : Bool}
+    → ltb (2 * (num % den)) den ≡ below → ltb den (2 * (num % den)) ≡ above → rounded num den ≡ by below above (num / den)
+unfolding rounded
+rounded-by num den {below} f g = ap (λ b. by b (ltb den (2 * (num % den))) (num / den)) f ∙ ap (λ a. by below a (num / den)) g
 
-pub rounded-same : (a b c d : ℕ) → 0 < b → 0 < d → a * d ≡ c * b → rounded a b ≡ rounded c d
-rounded-same a b c d B D e = div_same (2 * a + b) (2 * b) (2 * c + d) (2 * d) (omega arith) (omega arith) (omega arith)
+pub rounded-down : (num den : ℕ) → 2 * (num % den) < den → rounded num den ≡ num / den
+rounded-down num den h = rounded-by num den (lt-ltb _ _ h) refl
 
--- ---- a divisor that is even
+pub rounded-up : (num den : ℕ) → den < 2 * (num % den) → rounded num den ≡ num / den + 1
+rounded-up num den h = rounded-by num den (le-ltb _ _ (omega (arith, h))) (lt-ltb _ _ h)
 
--- x + 1 / 2, cut, is half of 2 * x, cut, + 1
-half : (n p : ℕ) → 0 < p → rounded n (2 * p) ≡ (n / p + 1) / 2
-half n p h =
-    div_same (2 * n + 2 * p) (2 * (2 * p)) (n + p) (p * 2) (omega arith) (omega arith) (omega arith)
-    ∙ sym (div-div-eq-div-mul (n + p) p 2)
-    ∙ ap (λ k. k / 2) (add-div_right n h)
-
--- ---- a power of two
-
-pub rounded-cut : (m s : ℕ) → 11 ≤ s → rounded (m * million) (2 ^ s) ≡ (cut m / 2 ^ (s - 11) + 1) / 2
-rounded-cut m s h =
-    let p : ℕ = 2 ^ (s - 11) in
-    ap (rounded (m * million)) (power s h)
-    ∙ half (m * million) (1024 * p) (omega (arith, pow_pos (s - 11)))
-    ∙ ap (λ k. (k + 1) / 2) (sym (div-div-eq-div-mul (m * million) 1024 p) ∙ ap (λ k. k / p) (cut-is m))
-  where
-    power : (s : ℕ) → 11 ≤ s → 2 ^ s ≡ 2 * (1024 * 2 ^ (s - 11))
-    power s h =
-        let e : s ≡ 11 + (s - 11) = omega arith in
-        ap (λ k. 2 ^ k) e ∙ pow-add 2 11 (s - 11) ∙ omega arith
+pub rounded-tie : (num den : ℕ) → 2 * (num % den) ≡ den → rounded num den ≡ num / den + num / den % 2
+rounded-tie num den h = rounded-by num den (le-ltb _ _ (omega (arith, h))) (le-ltb _ _ (omega (arith, h)))
 
 -- ---- sizes
 
-pub cut_below : (m : ℕ) → m < 2 ^ 53 → cut m < 2 ^ 63
-cut_below m h = omega arith
+pub rounded-most : (num den : ℕ) → rounded num den ≤ num / den + 1
+unfolding rounded
+rounded-most num den = most (ltb (2 * (num % den)) den) (ltb den (2 * (num % den))) (num / den)
+  where
+    most : (b a : Bool) (cut : ℕ) → by b a cut ≤ cut + 1
+    most true a cut = omega arith
+    most false true cut = omega arith
+    most false false cut = omega (arith, mod-lt cut {m = 2} (omega arith))
 
--- where all places are cut off
-pub rounded-none : (m s : ℕ) → m < 2 ^ 53 → 11 ≤ s → 63 < s - 11 → rounded (m * million) (2 ^ s) ≡ 0
-rounded-none m s h l k =
-    rounded-cut m s l ∙ ap (λ q. (q + 1) / 2) (div-eq_of_lt (omega (arith, cut_below m h, pow_mono {i = 63} {j = s - 11} (omega arith))))
+-- less than a half
+pub rounded-none : (num den : ℕ) → 2 * num < den → rounded num den ≡ 0
+rounded-none num den h =
+    let l : num < den = omega (arith, h) in
+    rounded-down num den (omega (arith, h, mod-eq_of_lt l)) ∙ div-eq_of_lt l
+
+-- ---- equal fractions
+
+-- two numbers, both times k, are two others, both times l
+below-same : (a b c d k l : ℕ) → 0 < k → a * k ≡ c * l → b * k ≡ d * l → a < b → c < d
+below-same a b c d k l K e f h = lt_of_mul-lt-mul_right l {m = c} {n = d} (omega (arith, e, f, mul-lt-mul_of_pos_right h K))
+
+test-same : (a b c d k l : ℕ) → 0 < k → 0 < l → a * k ≡ c * l → b * k ≡ d * l → ltb a b ≡ ltb c d
+test-same a b c d k l K L e f =
+    ltb_from_iff ((λ h. below-same a b c d k l K e f (ltb-true a b h)), λ h. lt-ltb a b (below-same c d a b l k L (sym e) (sym f) h))
+
+-- what is cut off, the quotient being one
+left-same : (a b c d : ℕ) → 0 < b → 0 < d → a * d ≡ c * b → 2 * (a % b) * d ≡ 2 * (c % d) * b
+left-same a b c d B D e =
+    let q = c / d in
+    let first : b * q + a % b ≡ a = ap (λ z. b * z + a % b) (sym (div_same a b c d B D e)) ∙ div-add-mod a b in
+    cancel q (a % b) (c % d) (ap (λ z. z * d) first ∙ e ∙ ap (λ z. z * b) (sym (div-add-mod c d)))
+  where
+    cancel : (q x y : ℕ) → (b * q + x) * d ≡ (d * q + y) * b → 2 * x * d ≡ 2 * y * b
+    cancel q x y e = grind arith
+
+pub rounded-same : (a b c d : ℕ) → 0 < b → 0 < d → a * d ≡ c * b → rounded a b ≡ rounded c d
+unfolding rounded
+rounded-same a b c d B D e =
+    let l = left-same a b c d B D e in
+    let m : b * d ≡ d * b = omega arith in
+    rounded-by a b (test-same (2 * (a % b)) b (2 * (c % d)) d d b D B l m) (test-same b (2 * (a % b)) d (2 * (c % d)) d b D B m l)
+    ∙ ap (by _ _) (div_same a b c d B D e)

@@ -4,7 +4,7 @@ use mathlib.Core.Path.{◌≡◌, sym, ap, ◌∙◌, subst}
 use mathlib.Core.Logic.{◌⊎◌, inl, inr, ⊎_elim}
 use mathlib.Core.Bool.{Bool, true, false, cond, not}
 use Prim.Native.Nat.{ℕ, suc, ◌+◌, ◌-◌, ◌*◌, ◌/◌, ◌%◌, ◌^◌, ◌≤◌, ◌<◌}
-use native.Mathlib.Nat.{le_trans, le_of_suc-le-suc, le-add_right, not-le_of_lt, mul-one, mul-le-mul_left, mul-le-mul_right, mul-lt-mul_of_pos_right, div-lt_iff_lt-mul}
+use native.Mathlib.Nat.{le_trans, le-add_right, not-le_of_lt, mul-one, mul-le-mul_left, mul-le-mul_right, mul-lt-mul_of_pos_right, div-lt_iff_lt-mul}
 use native.Mathlib.Omega.{arith}
 use lib.Dec.{T, leb, eqb, ltb→lt}
 use lib.Pow.{pow_pos, pow-add, pow_mono}
@@ -17,7 +17,7 @@ use lib.Ieee.Scale.{finite}
 use Rattle.std.proofs.lemmas.Bool.{cases_lt}
 use Rattle.gate.specs.Complex.{f2}
 use Rattle.text.specs.Millionths.{rounded, million, millionths, in_range}
-use Rattle.text.proofs.Rounding.{rounded-same}
+use Rattle.text.proofs.Rounding.{rounded-most, rounded-same}
 
 -- ---- the range
 
@@ -146,4 +146,6 @@ millionths-most (inf s) r = omega arith
 millionths-most (fin s m e) r = most (m * up e) (down e) (down_pos e) (range-below s m e r)
   where
     most : (a d : ℕ) → 0 < d → a < 2 * d → rounded (a * million) d ≤ 2 * million
-    most a d D h = le_of_suc-le-suc ((div-lt_iff_lt-mul {k = 2 * d} {x = 2 * (a * million) + d} {y = suc (2 * million)} (omega arith)).1 (omega arith))
+    most a d D h =
+        let cut = (div-lt_iff_lt-mul {k = d} {x = a * million} {y = 2 * million} D).1 (omega (arith, h)) in
+        omega (arith, rounded-most (a * million) d, cut)

@@ -2,6 +2,7 @@
 pub mod Bounds
 pub mod Ascii
 pub mod Millionths
+pub mod HalfEven
 pub mod Room
 pub mod Lines
 pub mod Print

@@ -1,16 +1,20 @@
--- "Z in millionths of the float's exact value, half away from zero, 0 without a sign; `out` for NaN or magnitude 2 and more." A finite float is
+-- "Z in millionths", "0 without a sign; `out` for NaN or magnitude 2 and more." The program "rounds the exact value half to even". A finite float is
 -- m * 2 ^ e with a sign, and 2 ^ e is the fraction up e / down e, so the millionths are said on whole numbers. Definitions only.
 -- A public promise rests on this.
-use Rattle.std.specs.Prelude.{Bool, cond, ◌&&◌, List, ◌++◌, ℕ, ◌+◌, ◌*◌, ◌/◌, eqb, Float}
+use Rattle.std.specs.Prelude.{Bool, cond, ◌&&◌, List, ◌++◌, ℕ, ◌+◌, ◌*◌, ◌/◌, ◌%◌, ltb, eqb, Float}
 use Rattle.std.specs.Float.{nan, inf, fin}
 use Rattle.std.specs.Float.Ieee.{up, down, neg, lt}
 use Rattle.laws.specs.Zeros.{+0}
 use Rattle.gate.specs.Complex.{f2}
 use Rattle.text.specs.Ascii.{ascii, decimal}
 
--- "half away from zero": num / den to the nearest whole number, from the half on upwards. It is num / den + 1 / 2, cut to a whole number.
-abbrev pub rounded : ℕ → ℕ → ℕ
-rounded num den = (2 * num + den) / (2 * den)
+-- "half to even", "on whole numbers, exact at the half": num / den is cut to a whole number; what is cut off is compared with a half, and at just a half the
+-- even one of the two next to it is taken
+unfoldable pub rounded : ℕ → ℕ → ℕ
+rounded num den =
+    let cut = num / den in
+    let twice = 2 * (num % den) in
+    cond (ltb twice den) cut (cond (ltb den twice) (cut + 1) (cut + cut % 2))
 
 abbrev pub million : ℕ
 million = 1000000

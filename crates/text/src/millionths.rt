@@ -6,24 +6,38 @@ ghost use Rattle.text.specs.Room.{Room};
 use crate::words::{Text, push_decimal, push_field};
 use num::SIGN;
 
-const MILLION: u64 = 1000000;
+const MILLION: u128 = 1000000;
 
 const TWO_52: u64 = 1 << 52; // the leading digit of an f64, and the weight of its exponent's field
 
 const LOWEST: u64 = 1074; // the smallest f64 above zero is 2^-1074
 
-// m / 2^s in millionths, rounded. m * 10^6 fits no u64, so ten of its binary places are cut off first; all
-// but one of the others follow, so that twice the quotient is left, and half of one more than that is it.
+// num / den to the nearest whole number, half to even.
+#[tactic(auto, unfolding(crate::specs::Millionths::rounded))]
+fn rounded(num: u128, den: u128) -> u128
+    requires { (num < 2 ^ 73) × (0 < den) × (den ≤ 2 ^ 73) }
+    ensures { result ≡ rounded num den }
+{
+    let cut = num / den;
+    let twice = 2 * (num % den);
+    if twice < den {
+        return cut;
+    }
+    if twice > den {
+        return cut + 1;
+    }
+    cut + cut % 2
+}
+
+// m / 2^s in millionths, rounded. m * 10^6 is below 2^73, so no binary place of it is lost in a u128, and over 2^74 and more it is less than a half.
 fn nearest(m: u64, s: u64) -> u64
     requires { (m < 2 ^ 53) × (11 ≤ s) }
     ensures { result ≡ rounded (m * million) (2 ^ s) }
 {
-    let a = m / 1024 * MILLION + m % 1024 * MILLION / 1024;
-    let k = s - 11;
-    if k > 63 {
+    if s > 73 {
         return 0;
     }
-    ((a >> k) + 1) / 2
+    rounded(u128::from(m) * MILLION, 1 << s) as u64
 }
 
 #[tactic(auto, unfolding(crate::specs::Millionths::in_range))]
