@@ -39,5 +39,8 @@ done
 for tape in cut long most over; do
     "$ORACLE" print "$tape" | cmp - "$ROOT/crates/replay_print/data/$tape.bin"
 done
-"$ORACLE" printed | cmp - "$ROOT/crates/replay_print/stdout"
+{
+    "$ORACLE" printed
+    python3 "$ROOT/tests/tape/halves.py" printed
+} | cmp - "$ROOT/crates/replay_print/stdout"
 echo "the stored lists are what the oracle gives"

@@ -10,8 +10,9 @@ use crate::rng::Rng;
 use crate::run::{ordering_name, run};
 use crate::tape::{header, label, record};
 use crate::traced::traced;
-use original::engines::gaussian::detect::Ordering;
+use original::engines::gaussian::detect;
 use original::gate::Gate;
+use std::cmp::Ordering;
 
 /// "over 60,000 bytes", "over 32 gates or 8 qubits": the most that are printed.
 const BYTES: usize = 60_000;
@@ -84,7 +85,9 @@ fn suits(list: &List) -> bool {
     let Ok(state) = ran.state else { return false };
     let z = |q| state.expectation_z_product(&[q]).expect("a qubit");
     let parted = (0..list.n).filter(|&q| (0.001..0.999).contains(&z(q).abs())).count();
-    ran.report.ordering == Some(Ordering::Paths) && 2 * parted > list.n && !traced(list).angled
+    ran.report.ordering == Some(detect::Ordering::Paths)
+        && 2 * parted > list.n
+        && !traced(list).angled
 }
 
 /// The records of the gates, each with its matrix; that of a Swap would be no renaming.
@@ -147,8 +150,8 @@ fn accepted(list: &List) -> String {
         + &lines
 }
 
-/// "Z in millionths of the float's exact value, half away from zero, 0 without a sign; `out` for NaN
-/// or magnitude 2 and more". Below 2 a float is a number of 53 digits over 2 to the power 52 or more.
+/// "Z in millionths", "0 without a sign; `out` for NaN or magnitude 2 and more"; the program "rounds
+/// the exact value half to even". Below 2 a float is a number of 53 digits over 2 to the power 52 or more.
 fn millionths(x: f64) -> String {
     if x.is_nan() || x.abs() >= 2.0 {
         return "out".to_string();
@@ -156,8 +159,16 @@ fn millionths(x: f64) -> String {
     let (fraction, exponent) = (x.to_bits() & ((1 << 52) - 1), x.abs().to_bits() >> 52);
     let digits = u128::from(fraction) + (u128::from(exponent.min(1)) << 52);
     let power = 1075 - exponent.max(1);
-    let half = 1u128.checked_shl(power as u32 - 1).unwrap_or(0);
-    let whole = (digits * 1_000_000 + half).checked_shr(power as u32).unwrap_or(0);
+    let whole = 1u128.checked_shl(power as u32).map_or(0, |den| half_even(digits * 1_000_000, den));
     let sign = if x < 0.0 && whole > 0 { "-" } else { "" };
     format!("{sign}{whole}")
+}
+
+fn half_even(num: u128, den: u128) -> u128 {
+    let (whole, rest) = (num / den, num % den);
+    match rest.cmp(&(den - rest)) {
+        Ordering::Less => whole,
+        Ordering::Equal => whole + whole % 2,
+        Ordering::Greater => whole + 1,
+    }
 }
