@@ -38,11 +38,14 @@ unfolding ascii digits_of decimal of_bits neg lt in_range rounded millionths sig
 ends = (refl, refl, refl, refl, refl)
 
 -- the lines of the example, and those that stand alone
+z_lines : (z_line 0 (of_bits binary64 0x3ff0_0000_0000_0000) ≡ ascii "q0 1000000\n")
+    × (z_line 1 (of_bits binary64 0xbff0_0000_0000_0000) ≡ ascii "q1 -1000000\n")
+unfolding ascii digits_of decimal of_bits neg lt in_range rounded millionths signed z_text z_line
+z_lines = (refl, refl)
+
 lines : (report_line 2 1 1 0 0 ≡ ascii "qubits 2 blocks 1 gaussian 1 bad 0 interactions 0\n")
     × (order_line Identity (0 ∷ 1 ∷ []) 2 ≡ ascii "order identity 0 1\n")
-    × (z_line 0 (of_bits binary64 0x3ff0_0000_0000_0000) ≡ ascii "q0 1000000\n")
-    × (z_line 1 (of_bits binary64 0xbff0_0000_0000_0000) ≡ ascii "q1 -1000000\n")
     × (refused_line 12 0 ≡ ascii "refused 12 at 0\n")
     × (too_big_line ≡ ascii "too big\n")
-unfolding ascii digits_of decimal of_bits neg lt in_range rounded millionths signed z_text pieces report_line name_of order_line z_line refused_line too_big_line
-lines = (refl, refl, refl, refl, refl, refl)
+unfolding ascii digits_of decimal pieces report_line name_of order_line refused_line too_big_line
+lines = (refl, refl, refl, refl)

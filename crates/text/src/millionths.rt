@@ -1,6 +1,6 @@
 // Z in millionths, exactly: from the float's bits, in whole numbers.
 ghost use Rattle.std.specs.Prelude.{◌≡◌, true, ◌++◌, ◌*◌, ◌^◌, ◌<◌, ◌≤◌};
-ghost use Rattle.text.specs.Millionths.{rounded, million, in_range, z_text, millionths as Millionths·millionths};
+ghost use Rattle.text.specs.Millionths.{rounded, million, in_range, signed, z_text, millionths as Millionths·millionths};
 ghost use Rattle.text.specs.Room.{Room};
 
 use crate::words::{Text, push_decimal, push_field};
@@ -61,7 +61,19 @@ fn millionths(x: f64) -> u64
     nearest(TWO_52 + t, LOWEST + 1 - e)
 }
 
-#[tactic(auto, using(std::proofs::lemmas::Bool::Decides::nat_tests), unfolding(crate::specs::Ascii::ascii, crate::specs::Millionths::z_text, crate::specs::Millionths::signed))]
+#[tactic(auto, using(std::proofs::lemmas::Bool::Decides::nat_tests), unfolding(crate::specs::Ascii::ascii, crate::specs::Millionths::signed))]
+fn push_signed(text: &mut Text, minus: bool, k: u64)
+    requires { Room text.old.bytes (signed minus k) }
+    ensures { text.new.bytes ≡ text.old.bytes ++ signed minus k }
+{
+    if minus && k > 0 {
+        push_field(text, "-", k);
+    } else {
+        push_decimal(text, k);
+    }
+}
+
+#[tactic(auto, unfolding(crate::specs::Ascii::ascii, crate::specs::Millionths::z_text))]
 pub fn push_z(text: &mut Text, x: f64)
     requires { Room text.old.bytes (z_text x) }
     ensures { text.new.bytes ≡ text.old.bytes ++ z_text x }
@@ -70,10 +82,5 @@ pub fn push_z(text: &mut Text, x: f64)
         text.push_str("out");
         return;
     }
-    let k = millionths(x);
-    if x < 0.0 && k > 0 {
-        push_field(text, "-", k);
-    } else {
-        push_decimal(text, k);
-    }
+    push_signed(text, x < 0.0, millionths(x));
 }
