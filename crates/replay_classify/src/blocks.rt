@@ -4,6 +4,7 @@ use crate::tallies::Tallies;
 use classify::Class2;
 use gate::{Complex, Mat2, Mat4, Matrix, Row4};
 use real::{Map2, Map4, Real4};
+use stored::MAX_RECORDS;
 use stored::records::{Tag, numbered};
 use stored::values::{Stored, compare, list};
 use stored::words::{Plain, Words};
@@ -20,14 +21,19 @@ pub enum Block {
 const BLOCKS: [(Block, usize); 3] = [(Block::One, 14), (Block::Two, 71), (Block::Phases, 26)];
 
 impl Tag for Block {
+    const RECORDS: usize = MAX_RECORDS;
+
     fn of(word: u64) -> Option<Block> {
         let (block, _) = numbered(&BLOCKS, 1, word)?;
         Some(block)
     }
 
-    fn length(&self, _words: Plain) -> Option<usize> {
-        let (_, words) = BLOCKS[*self as usize];
-        Some(words)
+    // No words follow what is no tag.
+    fn length(word: u64, _words: Plain) -> usize {
+        match numbered(&BLOCKS, 1, word) {
+            Some((_, words)) => words,
+            None => 0,
+        }
     }
 }
 

@@ -18,6 +18,9 @@ fn replay(rt: &(impl Files + Print + Eprint), path: &str) -> io::Result<()> {
     let n = stored::named_list(rt, path.as_bytes(), &mut space)?;
     let mut tallies = Tallies::default();
     for (block, mut words) in Records::<Block>::new(&space[..n]) {
+        let Some(block) = block else {
+            continue;
+        };
         if block.compare(&mut words, &mut tallies).is_none() {
             tallies.unreadable.note(false);
         }

@@ -17,7 +17,7 @@ fn replay(rt: &(impl Files + Print + Eprint), path: &str) -> io::Result<()> {
     let mut tallies = Tallies::default();
     for (_, record) in Records::<Taped>::new(&space[..n]) {
         if tapes::replay(record, &mut tallies).is_none() {
-            tallies.answers.note(false);
+            tallies.unreadable();
         }
     }
     tallies.print(rt)

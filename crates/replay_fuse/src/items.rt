@@ -9,10 +9,13 @@ use stored::values::Stored;
 use stored::words::{Plain, Words};
 use work::{A, B, Kind, RESIDUAL, Work};
 
-// The items of all records; no more may be stored.
+// The items of all records, up to the first that the words do not have; no more may be stored.
 pub fn compare(taped: Taped, work: &Work, words: &mut Plain, tallies: &mut Tallies) {
     for k in 0..work.gates() + work.slots() {
         if let Some(kind) = work.item_kind(k) {
+            if words.bytes.len() < size(taped, kind) {
+                return tallies.other_items();
+            }
             tallies
                 .kinds
                 .note(words.word() == Some(head(work, k, kind)));
@@ -22,7 +25,16 @@ pub fn compare(taped: Taped, work: &Work, words: &mut Plain, tallies: &mut Talli
         }
     }
     if !words.bytes.is_empty() {
-        tallies.kinds.note(false);
+        tallies.other_items();
+    }
+}
+
+// How many bytes an item has in the list.
+fn size(taped: Taped, kind: Kind) -> usize {
+    match (taped, kind) {
+        (Taped::Angled, _) | (_, Kind::OpaqueItem) => 8,
+        (Taped::Exact, Kind::OneItem) => 8 * 9,
+        (Taped::Exact, _) => 8 * 34,
     }
 }
 

@@ -19,8 +19,9 @@ fn replay(rt: &(impl Files + Print + Eprint), path: &str) -> io::Result<()> {
     let n = stored::named_list(rt, path.as_bytes(), &mut space)?;
     let mut tallies = Tallies::default();
     for (taped, record) in Records::<Taped>::new(&space[..n]) {
+        let taped = taped.unwrap_or(Taped::Angled);
         if tapes::compare(taped, record, &mut tallies).is_none() {
-            tallies.counts.note(false);
+            tallies.unreadable();
         }
     }
     tallies.print(rt)

@@ -12,6 +12,20 @@ pub struct Tallies {
 }
 
 impl Tallies {
+    // A record that cannot be read agrees in nothing.
+    pub fn unreadable(&mut self) {
+        self.counts.note(false);
+        self.slots.note(false);
+        self.other_items();
+    }
+
+    // Items that are too few or too many.
+    pub fn other_items(&mut self) {
+        self.kinds.note(false);
+        self.residuals.note(false);
+        self.matrices.note(false);
+    }
+
     pub fn print(&self, rt: &impl Print) -> io::Result<()> {
         print_tally(rt, "counts of swaps and cuts", self.counts)?;
         print_tally(rt, "slots and wires", self.slots)?;

@@ -1,6 +1,7 @@
 // A tape fused in lent work, and what that counts and leaves there beside the words of its record.
-ghost use Rattle.std.specs.Prelude.{◌<◌};
+ghost use Rattle.std.specs.Prelude.{◌≡◌, ◌<◌, length};
 ghost use Rattle.work.specs.Sizes.{record_marks};
+ghost use Rattle.work.specs.Lent.{SameSizes};
 ghost use Rattle.fuse.specs.Slotted.{Gates};
 
 use crate::items;
@@ -17,6 +18,8 @@ const ROOM: usize = 128;
 const FLOATS: usize = RECORD_FLOATS * ROOM;
 
 const MARKS: usize = RECORD_MARKS * ROOM;
+
+const COUNTS: usize = 3; // words before the slots
 
 // A record: the tape, the counts, the slots, the items. Nothing where it cannot be read.
 pub fn compare(taped: Taped, mut words: Plain, tallies: &mut Tallies) -> Option<()> {
@@ -38,7 +41,7 @@ fn fused(
     requires { Gates tape.now gates header.n }
 {
     let n = header.n;
-    if n > ROOM || gates > ROOM - n {
+    if n > ROOM || gates > ROOM - n || words.bytes.len() < 8 * (COUNTS + 2 * n) {
         return None;
     }
     let mut w = [0.0; FLOATS];
@@ -56,6 +59,8 @@ fn fused(
 // The gates of an accepted tape, fused in the lent work.
 fn fuse_tape(tape: &[u8], work: &mut Work, header: Header) -> resolve::Tally
     requires { Gates tape.now work.old.gates work.old.slots }
+    ensures { SameSizes work.old work.new × (length work.new.floats ≡ length work.old.floats)
+        × (length work.new.marks ≡ length work.old.marks) }
 {
     let rules = Rules {
         relabel: header.relabels(),

@@ -1,4 +1,5 @@
 // The leaves: their names, the tags of their records, and how many words follow each.
+use stored::MAX_RECORDS;
 use stored::records::{Tag, numbered};
 use stored::words::Plain;
 
@@ -37,13 +38,18 @@ pub const LEAVES: [(Leaf, &str, usize); 13] = [
 ];
 
 impl Tag for Leaf {
+    const RECORDS: usize = MAX_RECORDS;
+
     fn of(word: u64) -> Option<Leaf> {
         let (leaf, _, _) = numbered(&LEAVES, 1, word)?;
         Some(leaf)
     }
 
-    fn length(&self, _words: Plain) -> Option<usize> {
-        let (_, _, words) = LEAVES[*self as usize];
-        Some(words)
+    // No words follow what is no tag.
+    fn length(word: u64, _words: Plain) -> usize {
+        match numbered(&LEAVES, 1, word) {
+            Some((_, _, words)) => words,
+            None => 0,
+        }
     }
 }

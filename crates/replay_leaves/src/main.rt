@@ -80,7 +80,9 @@ fn replay(rt: &(impl Files + Print + Eprint), path: &str) -> io::Result<()> {
     // beside the table of names, by the case's number: no heap, so no map
     let mut tallies = [Tally::default(); LEAVES.len()];
     for (leaf, mut words) in &mut records {
-        tallies[leaf as usize].note(agrees(leaf, &mut words) == Some(true));
+        if let Some(leaf) = leaf {
+            tallies[leaf as usize].note(agrees(leaf, &mut words) == Some(true));
+        }
     }
     for (leaf, name, _) in LEAVES {
         stored::print_tally(rt, name, tallies[leaf as usize])?;

@@ -4,29 +4,36 @@ use stored::values::{compare, compare_both, compare_table, list};
 use stored::words::{Plain, Words, size};
 use stored_queries::asked::{Query, State, Widths};
 use stored_queries::counts::Counts;
-use stored_queries::packed::Packed;
+use stored_queries::packed::{Numbered, Packed};
 
 // A tape has fewer queries.
 const QUERIES: usize = 256;
 
+// A record has at most so many words, unpacked.
+const WORDS: usize = 90000;
+
 // Record k of a list: the tape, the number of packed words, and these. They are the lengths of the lent slices, how many places of work are zero
-// afterwards, number and place, the report, its tables, the operation slice, the state slice, the queries. Nothing where they cannot be read.
+// afterwards, number and place, the report, its tables, the operation slice, the state slice, the queries; what is not there is 0. Nothing where the record
+// or a slice is too short or too long.
 pub fn replay(mut record: Plain, k: usize, counts: &mut Counts) -> Option<()> {
     let tape = record.tape()?;
-    record.word()?;
-    let words = Packed::new(record.bytes);
+    let many = size(&mut record)?;
+    if many > WORDS {
+        return None;
+    }
+    let words = Numbered::new(Packed::new(record.bytes), many);
     Comparison { words, k, counts }.run(tape)
 }
 
 // Words that are still to be compared, on tape k of the list.
 #[derive(Drop)]
-struct Comparison<'a, W> {
-    words: W,
+struct Comparison<'a> {
+    words: Numbered<Packed<'a>>,
     k: usize,
     counts: &'a mut Counts,
 }
 
-impl<'a, W: Words> Comparison<'a, W> {
+impl<'a> Comparison<'a> {
     // A run in slices of the lengths that the words name, with 7 in every place before.
     fn run(&mut self, tape: &[u8]) -> Option<()> {
         let [floats, marks, places, entries]: [usize; 4] = list(&mut self.words)?;
@@ -63,8 +70,10 @@ impl<'a, W: Words> Comparison<'a, W> {
             ..
         } = report;
         for table in [order, starts, modes] {
-            let tables = compare_table(&table, n, &mut self.words);
+            let mut listed = self.words;
+            let tables = compare_table(&table, n, &mut listed);
             self.counts.tables.note(self.k, tables);
+            self.words.pass(n);
         }
         let left_operations = compare(operations, &mut self.words);
         let left_entries = compare(entries, &mut self.words);
@@ -84,20 +93,32 @@ impl<'a, W: Words> Comparison<'a, W> {
             if tag == 0 {
                 break;
             }
-            let query = Query::of(tag)?;
             let length = size(&mut self.words)?;
-            let mut asked = self.words;
-            let agrees = query.agrees(state, Widths::default(), &mut asked) == Some(true);
-            self.counts.queries[query as usize].note(self.k, agrees.then_some(()).ok_or(place));
-            skip(length, &mut self.words)?;
+            match Query::of(tag) {
+                Some(query) => self.query(query, state, place),
+                None => self.no_query(tag, place),
+            }
+            self.words.pass(length);
         }
         Some(())
     }
-}
 
-fn skip<W: Words>(length: usize, words: &mut W) -> Option<()> {
-    for _ in 0..length {
-        words.word()?;
+    fn query(&mut self, query: Query, state: State, place: usize) {
+        let mut asked = self.words;
+        let mut work = [7.0; stored::WORK];
+        let agrees = query.agrees(state, Widths::default(), &mut work, &mut asked) == Some(true);
+        self.counts.queries[query as usize].note(self.k, agrees.then_some(()).ok_or(place));
     }
-    Some(())
+
+    // A tag of no query is passed over, and some stand for another comparison, which then differs.
+    fn no_query(&mut self, tag: u64, place: usize) {
+        match tag {
+            1 => self.counts.reports.note(self.k, Err(place)),
+            2 => self.counts.operations.note(self.k, Err(place)),
+            3 => self.counts.states.note(self.k, Err(place)),
+            10 => self.counts.tables.note(self.k, Err(place)),
+            11 => self.counts.work.note(self.k, Err(place)),
+            _ => {}
+        }
+    }
 }

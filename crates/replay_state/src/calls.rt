@@ -1,6 +1,6 @@
 // The records of a list: states, and calls on the state that is held.
-use stored::records::Tag;
-use stored::words::{Plain, size};
+use stored::records::{Tag, counted};
+use stored::words::Plain;
 use stored_queries::asked::Query;
 
 #[derive(Clone, Copy)]
@@ -13,6 +13,8 @@ pub enum Call {
 }
 
 impl Tag for Call {
+    const RECORDS: usize = 4096;
+
     fn of(word: u64) -> Option<Call> {
         match word {
             1 => Some(Call::State),
@@ -24,7 +26,7 @@ impl Tag for Call {
     }
 
     // The first word counts the others.
-    fn length(&self, mut words: Plain) -> Option<usize> {
-        size(&mut words)?.checked_add(1)
+    fn length(_word: u64, words: Plain) -> usize {
+        counted(words, 0)
     }
 }

@@ -3,10 +3,10 @@ use arrayvec::ArrayVec;
 use laws::OP_PLACES;
 use state::Told;
 use stored::values::{Stored, Word, compare, list};
-use stored::words::{Plain, Words, size};
+use stored::words::{Words, size};
 use stored_queries::asked::{Query, State, Widths};
 
-const PLACES: usize = 288; // of the largest state
+const PLACES: usize = 288; // of the largest state, and of the largest work
 
 const QUBITS: usize = 8; // of each list of qubits, of the mode table too
 
@@ -31,7 +31,7 @@ pub struct Held {
 }
 
 // An operation's places, some of which may not be lent, and how many are.
-fn operation(words: &mut Plain) -> Option<([f64; OPERATION], usize)> {
+fn operation<W: Words>(words: &mut W) -> Option<([f64; OPERATION], usize)> {
     let length = size(words)?;
     Some((list(words)?, length))
 }
@@ -42,22 +42,28 @@ fn is_same_entry(a: f64, b: f64) -> bool {
 }
 
 impl Held {
-    // The state of a record; nothing where it cannot be read. Places that the record does not have are zero.
-    pub fn read(words: &mut Plain) -> Option<Held> {
-        let n = size(words)?;
-        let length = size(words)?;
-        let listed = size(words)?;
-        let table: [u16; QUBITS] = list(words)?;
-        let mut held = Held {
-            n,
+    // A state of no qubits, on which calls are before the list has another.
+    pub fn none() -> Held {
+        Held {
+            n: 0,
             entries: ArrayVec::new(),
             modes: ArrayVec::new(),
             plain: ArrayVec::new(),
             first: ArrayVec::new(),
-        };
+        }
+    }
+
+    // The state of a record; nothing where it is too large.
+    pub fn read<W: Words>(words: &mut W) -> Option<Held> {
+        let n = size(words)?;
+        let length = size(words)?;
+        let listed = size(words)?;
+        let table: [u16; QUBITS] = list(words)?;
+        let mut held = Held::none();
+        held.n = n;
         held.modes.try_extend_from_slice(table.get(..listed)?).ok()?;
         for _ in 0..length {
-            held.entries.try_push(f64::read(words).unwrap_or(0.0)).ok()?;
+            held.entries.try_push(f64::read(words)?).ok()?;
         }
         let entries = held.entries.as_slice();
         held.plain.try_extend_from_slice(entries).ok()?;
@@ -65,8 +71,8 @@ impl Held {
         Some(held)
     }
 
-    // Whether an operation's answer agrees: it has a number and a place.
-    pub fn apply(&mut self, words: &mut Plain) -> Option<bool> {
+    // Whether an operation's answer agrees: number, place, and the value 0.0.
+    pub fn apply<W: Words>(&mut self, words: &mut W) -> Option<bool> {
         let (places, length) = operation(words)?;
         let told = Told::from(state::apply(
             self.n,
@@ -74,11 +80,11 @@ impl Held {
             self.modes.as_slice(),
             places.get(..length)?,
         ));
-        Some(compare(&[told.number, told.place], words).is_ok())
+        Some(compare(&[told.number, told.place, told.value.word()], words).is_ok())
     }
 
-    // The same of the plain engine.
-    pub fn apply_plain(&mut self, words: &mut Plain) -> Option<bool> {
+    // The same of the plain engine, whose answer has a number and a place.
+    pub fn apply_plain<W: Words>(&mut self, words: &mut W) -> Option<bool> {
         let (places, length) = operation(words)?;
         let told = Told::from(plain::apply(
             self.n,
@@ -89,17 +95,18 @@ impl Held {
     }
 
     // Whether the state's slice is what the words are.
-    pub fn holds(&self, words: &mut Plain) -> bool {
+    pub fn holds<W: Words>(&self, words: &mut W) -> bool {
         compare(self.entries.as_slice(), words).is_ok()
     }
 
-    pub fn answers(&self, query: Query, words: &mut Plain) -> Option<bool> {
+    pub fn answers<W: Words>(&self, query: Query, words: &mut W) -> Option<bool> {
         let state = State {
             n: self.n,
             entries: self.entries.as_slice(),
             modes: self.modes.as_slice(),
         };
-        query.agrees(state, WIDTHS, words)
+        let mut work = [7.0; PLACES];
+        query.agrees(state, WIDTHS, &mut work, words)
     }
 
     // Operators, and entries of the covariance.
@@ -109,7 +116,7 @@ impl Held {
     }
 
     // Whether the plain engine's matrix is what the words are, and what lies behind it is as it was.
-    pub fn is_matrix(&self, words: &mut Plain) -> Option<bool> {
+    pub fn is_matrix<W: Words>(&self, words: &mut W) -> Option<bool> {
         let (_, places) = self.sizes()?;
         let (matrix, behind) = self.plain.split_at_checked(places)?;
         let (_, first) = self.first.split_at_checked(places)?;

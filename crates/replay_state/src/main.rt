@@ -14,7 +14,7 @@ use std::io;
 use std::rt::Files;
 use stored::Tally;
 use stored::records::Records;
-use stored::words::{Plain, Words};
+use stored::words::{Padded, Plain, Words};
 use stored_queries::asked::{QUERIES, Query};
 
 // The comparisons of a list.
@@ -42,8 +42,8 @@ impl Tallies {
     }
 }
 
-// Whether a call on the state that is held agrees; nothing where there is none, or the words cannot be read.
-fn agrees(call: Call, words: &mut Plain, held: &mut Option<Held>) -> Option<bool> {
+// Whether a call on the state that is held agrees; nothing where that or the call is too large.
+fn agrees(call: Call, words: &mut Padded<Plain>, held: &mut Option<Held>) -> Option<bool> {
     match (call, held) {
         (Call::Apply, Some(held)) => held.apply(words),
         (Call::Holds, Some(held)) => Some(held.holds(words)),
@@ -53,7 +53,7 @@ fn agrees(call: Call, words: &mut Plain, held: &mut Option<Held>) -> Option<bool
 }
 
 // Another state, or a call on the one that is held. What cannot be read does not agree.
-fn step(call: Call, words: &mut Plain, held: &mut Option<Held>, tallies: &mut Tallies) {
+fn step(call: Call, words: &mut Padded<Plain>, held: &mut Option<Held>, tallies: &mut Tallies) {
     if let Call::State = call {
         *held = Held::read(words);
         return;
@@ -68,7 +68,12 @@ fn step(call: Call, words: &mut Plain, held: &mut Option<Held>, tallies: &mut Ta
 }
 
 // What the plain engine makes of the same: its answer to an operation; its matrix, and the engine's covariance beside that.
-fn step_plain(call: Call, words: &mut Plain, held: &mut Option<Held>, tallies: &mut Tallies) {
+fn step_plain(
+    call: Call,
+    words: &mut Padded<Plain>,
+    held: &mut Option<Held>,
+    tallies: &mut Tallies,
+) {
     match (call, held) {
         (Call::Apply, Some(held)) => tallies.plain.note(held.apply_plain(words) == Some(true)),
         (Call::Matrix, Some(held)) => {
@@ -83,9 +88,13 @@ fn step_plain(call: Call, words: &mut Plain, held: &mut Option<Held>, tallies: &
 fn replay(rt: &(impl Files + Print + Eprint), path: &str, both: bool) -> io::Result<()> {
     let mut space = large_buffer();
     let n = stored::named_list(rt, path.as_bytes(), &mut space)?;
-    let mut held = None;
+    let mut held = Some(Held::none());
     let mut tallies = Tallies::default();
-    for (call, mut words) in Records::<Call>::new(&space[..n]) {
+    for (call, record) in Records::<Call>::new(&space[..n]) {
+        let Some(call) = call else {
+            continue;
+        };
+        let mut words = Padded { words: record };
         words.word(); // how many there are
         let mut again = words;
         step(call, &mut words, &mut held, &mut tallies);

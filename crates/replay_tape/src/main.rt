@@ -86,16 +86,16 @@ struct Answers {
     whole: bool,
 }
 
-// The answers of a list, each put to the first bytes of the tape before it. A record takes a byte at least, so that a count of turns ends the
-// walk: an iterator would be an impl more for this one loop.
+// The answers of a list, each put to as many bytes as it says, from the start of the tape before it or of the list. A record takes a byte at least, so that a
+// count of turns ends the walk: an iterator would be an impl more for this one loop.
 fn replayed(bytes: &[u8]) -> Answers {
     let none = Tally::default();
     let (mut checks, mut labels, mut gates) = (none, none, none);
     let mut list = List::new(bytes);
-    let mut tape: &[u8] = &[];
+    let mut tape = bytes;
     for _ in 0..bytes.len() {
         match list.record() {
-            Some(Record::Tape(bytes)) => tape = bytes,
+            Some(Record::Tape(from)) => tape = from,
             Some(Record::Check(check)) => {
                 let asked = tape.get(..check.length);
                 checks.note(asked.is_some_and(|t| check_agrees(t, check)));

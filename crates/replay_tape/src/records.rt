@@ -22,6 +22,7 @@ pub struct Check {
 
 #[derive(Clone, Copy)]
 pub enum Record<'a> {
+    // the list from the tape's first byte on: each answer says how many bytes it is to
     Tape(&'a [u8]),
     Check(Check),
     // the gates of so many bytes of the tape
@@ -73,7 +74,9 @@ impl<'a> List<'a> {
         let record = match ahead.word()? {
             1 => {
                 let size = ahead.word()?;
-                Record::Tape(ahead.part(size)?)
+                let from = ahead.bytes;
+                ahead.part(size)?;
+                Record::Tape(from)
             }
             2 => Record::Check(ahead.check()?),
             3 => {

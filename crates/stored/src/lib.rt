@@ -14,5 +14,6 @@ pub mod words; // words.rt: the words of a record, one after the other
 
 pub use lent::worked;
 pub use lists::{named_list, read_list};
+pub use records::MAX_RECORDS;
 pub use rooms::{FLOATS, MARKS, PLACES, STATE, WORK};
 pub use tally::{Tally, print_tally};

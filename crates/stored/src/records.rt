@@ -5,13 +5,34 @@ ghost use Rattle.std.specs.Iterator.{at_most};
 use crate::words::{Plain, Words, size};
 use std::marker::{Model, PhantomData};
 
+// A list of tapes or blocks is read to so many records.
+pub const MAX_RECORDS: usize = 1024;
+
+// A record has fewer words after the one that counts them.
+const MANY: usize = 65000;
+
 // The tags of a list.
 pub trait Tag: Sized + Drop {
-    // Nothing where the word is no tag, as 0. Not `TryFrom`: nobody would read its error.
+    // The list is read to so many records.
+    const RECORDS: usize;
+
+    // Nothing where the word, which is not 0, is no tag. Not `TryFrom`: nobody would read its error.
     fn of(word: u64) -> Option<Self>;
 
-    // How many words follow the tag, where they begin with these.
-    fn length(&self, words: Plain) -> Option<usize>;
+    // How many words follow this one, a tag or none, where they begin with these.
+    fn length(word: u64, words: Plain) -> usize;
+}
+
+// How many words a record has that counts them in the word after its first `before`; no words where it counts too many.
+pub fn counted(mut words: Plain, before: usize) -> usize
+    requires { before ≤ 8 }
+    ensures { result ≤ 65008 }
+{
+    for _ in 0..before {
+        words.word();
+    }
+    let last = size(&mut words).unwrap_or(0);
+    if last < MANY { last + before + 1 } else { 0 }
 }
 
 // What a tag stands for where the tags count up from the first, in the order of these; nothing where it is none of them.
@@ -24,7 +45,7 @@ pub fn numbered<T: Copy>(these: &[T], first: u64, tag: u64) -> Option<T>
     these.get(place as usize).copied()
 }
 
-// Of a record with a tape, which begins with the tape's length and the number of words after this one.
+// Of a record with a tape, which begins with the tape's length and the number of words after this one. Another tag stands before the like.
 #[derive(Clone, Copy, PartialEq)]
 pub enum Taped {
     Exact,
@@ -32,6 +53,8 @@ pub enum Taped {
 }
 
 impl Tag for Taped {
+    const RECORDS: usize = MAX_RECORDS;
+
     fn of(word: u64) -> Option<Taped> {
         match word {
             1 => Some(Taped::Exact),
@@ -40,9 +63,8 @@ impl Tag for Taped {
         }
     }
 
-    fn length(&self, mut words: Plain) -> Option<usize> {
-        words.word()?;
-        size(&mut words)?.checked_add(2)
+    fn length(_word: u64, words: Plain) -> usize {
+        counted(words, 1)
     }
 }
 
@@ -50,6 +72,7 @@ impl Tag for Taped {
 #[derive(Drop)]
 pub struct Records<'a, T> {
     rest: Plain<'a>,
+    left: usize, // records that are still to be read at most
     tags: PhantomData<T>,
 }
 
@@ -67,6 +90,7 @@ impl<'a, T: Tag> Records<'a, T> {
     {
         Records {
             rest: Plain { bytes: list },
+            left: T::RECORDS,
             tags: PhantomData,
         }
     }
@@ -79,16 +103,21 @@ impl<'a, T: Tag> Records<'a, T> {
     }
 }
 
+// Each record with its tag, or with none: what that is and how long, each program says for itself, and passes over what it does not know.
 impl<'a, T: Tag> Iterator for Records<'a, T> {
-    type Item = (T, Plain<'a>);
+    type Item = (Option<T>, Plain<'a>);
 
     ghost remaining = { λ s. at_most (length s) };
 
-    fn next(&mut self) -> Option<(T, Plain<'a>)> {
+    fn next(&mut self) -> Option<(Option<T>, Plain<'a>)> {
+        self.left = self.left.checked_sub(1)?;
         let mut words = self.rest;
-        let tag = T::of(words.word()?)?;
-        let (record, rest) = words.split(tag.length(words)?)?;
+        let word = words.word()?;
+        if word == 0 {
+            return None;
+        }
+        let (record, rest) = words.split(T::length(word, words))?;
         self.rest = rest;
-        Some((tag, record))
+        Some((T::of(word), record))
     }
 }

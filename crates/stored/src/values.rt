@@ -54,11 +54,12 @@ impl Word for u32 {
     }
 }
 
+// Of a larger word the lowest bits are read, here and below.
 impl Word for u16 {
     ghost word_of = { λ x. x };
 
     fn of(word: u64) -> Option<u16> {
-        u16::try_from(word).ok()
+        Some((word % 0x10000) as u16)
     }
 
     fn word(self) -> u64 {
@@ -70,7 +71,7 @@ impl Word for u8 {
     ghost word_of = { λ x. x };
 
     fn of(word: u64) -> Option<u8> {
-        u8::try_from(word).ok()
+        Some((word % 0x100) as u8)
     }
 
     fn word(self) -> u64 {

@@ -1,5 +1,6 @@
 // The words of a record, read one after the other: each is eight bytes, the lowest first.
 ghost use Rattle.std.specs.Prelude.{◌≡◌, ◌*◌, ◌<◌, ◌≤◌, length, take, drop, IfSome, MatchOption};
+ghost use Rattle.std.specs.Option.{IsSome};
 ghost use Rattle.num.specs.Bits.{le64};
 
 // Where words come from. A copy reads ahead.
@@ -11,6 +12,23 @@ pub trait Words: Copy {
 // A word as a length, a place or a qubit.
 pub fn size<W: Words>(words: &mut W) -> Option<usize> {
     Some(words.word()? as usize)
+}
+
+// A stored tape has at most so many bytes.
+const MAX_TAPE: usize = 60000;
+
+// Words that go on with zeros after the last.
+#[derive(Clone, Copy)]
+pub struct Padded<W> {
+    pub words: W,
+}
+
+impl<W: Words> Words for Padded<W> {
+    fn word(&mut self) -> Option<u64>
+        ensures { IsSome result }
+    {
+        Some(self.words.word().unwrap_or(0))
+    }
 }
 
 // Bytes that are words.
@@ -30,10 +48,15 @@ impl<'a> Plain<'a> {
         Some((Plain { bytes: first }, Plain { bytes: rest }))
     }
 
-    // The tape of a record that begins with the tape's length and the number of words after this one. It fills whole words.
-    pub fn tape(&mut self) -> Option<&'a [u8]> {
+    // The tape of a record that begins with the tape's length and the number of words after this one. It fills whole words. Nothing where it is too long.
+    pub fn tape(&mut self) -> Option<&'a [u8]>
+        ensures { IfSome result (λ tape. length tape.now ≤ 60000) }
+    {
         let size = size(self)?;
         self.word()?;
+        if size > MAX_TAPE {
+            return None;
+        }
         let (tape, rest) = self.split(size.div_ceil(8))?;
         *self = rest;
         tape.bytes.get(..size)

@@ -21,7 +21,7 @@ pub struct State<'a> {
     pub modes: &'a [u16],
 }
 
-// In at least so many words each list of a query is stored.
+// In so many words each list of a query is stored, which then has no more entries; where none are named, in as many as it has.
 #[derive(Clone, Copy, Default)]
 pub struct Widths {
     pub qubits: usize,
@@ -53,13 +53,19 @@ impl Query {
         Some(query)
     }
 
-    // Whether the answer and what is left in work agree; nothing where the query cannot be read.
-    pub fn agrees<W: Words>(self, state: State, widths: Widths, words: &mut W) -> Option<bool> {
+    // Whether the answer and what is left in work agree; nothing where the query cannot be read. Every place of the lent work is 7.0.
+    pub fn agrees<W: Words>(
+        self,
+        state: State,
+        widths: Widths,
+        lent: &mut [f64],
+        words: &mut W,
+    ) -> Option<bool> {
         match self {
-            Query::Product => product(state, widths, words),
-            Query::Marginal => marginal(state, widths, words),
-            Query::Probability => probability(state, words),
-            Query::Sample => sample(state, widths, words),
+            Query::Product => product(state, widths, lent, words),
+            Query::Marginal => marginal(state, widths, lent, words),
+            Query::Probability => probability(state, lent, words),
+            Query::Sample => sample(state, widths, lent, words),
         }
     }
 }
@@ -88,31 +94,47 @@ impl Answer for Answered {
     }
 }
 
-// So many entries, stored in at least so many words. A longer array is filled and its first part taken, since the words behind the entries are read too.
+// In how many words so many entries are stored; nothing where these are too few.
+fn stored_in(count: usize, width: usize) -> Option<usize> {
+    if width == 0 {
+        return Some(count);
+    }
+    (count <= width).then_some(width)
+}
+
+// So many entries. A longer array is filled and its first part taken, since the words behind the entries are read too.
 fn listed<T: Word, W: Words>(count: usize, width: usize, words: &mut W) -> Option<[T; LISTED]> {
     let mut list = [T::of(0)?; LISTED];
-    for i in 0..count.max(width) {
+    for i in 0..stored_in(count, width)? {
         *list.get_mut(i)? = T::of(words.word()?)?;
     }
     Some(list)
 }
 
 // A query that works in lent floats. The words are work's length, how many of its places are zero after the call, and the answer.
-fn worked<A: Answer, W: Words, F: FnOnce(&mut [f64]) -> A>(words: &mut W, ask: F) -> Option<bool>
+fn worked<A: Answer, W: Words, F: FnOnce(&mut [f64]) -> A>(
+    lent: &mut [f64],
+    words: &mut W,
+    ask: F,
+) -> Option<bool>
     requires { F.IsAlwaysCallable ask }
 {
     let length = size(words)?;
     let zeros = size(words)?;
-    let mut work = [7.0; stored::WORK];
-    let answer = ask(work.get_mut(..length)?);
-    Some(answer.is_said(words)? && is_cleared(&work, zeros, 7.0))
+    let answer = ask(lent.get_mut(..length)?);
+    Some(answer.is_said(words)? && is_cleared(lent, zeros, 7.0))
 }
 
-fn product<W: Words>(state: State, widths: Widths, words: &mut W) -> Option<bool> {
+fn product<W: Words>(
+    state: State,
+    widths: Widths,
+    lent: &mut [f64],
+    words: &mut W,
+) -> Option<bool> {
     let count = size(words)?;
     let list = listed(count, widths.qubits, words)?;
     let qubits = list.get(..count)?;
-    worked(words, |work| {
+    worked(lent, words, |work| {
         Answered::from(queries::expectation_z_product(
             state.n,
             state.entries,
@@ -123,14 +145,19 @@ fn product<W: Words>(state: State, widths: Widths, words: &mut W) -> Option<bool
     })
 }
 
-fn marginal<W: Words>(state: State, widths: Widths, words: &mut W) -> Option<bool> {
+fn marginal<W: Words>(
+    state: State,
+    widths: Widths,
+    lent: &mut [f64],
+    words: &mut W,
+) -> Option<bool> {
     let count = size(words)?;
     let bit_count = size(words)?;
     let list = listed(count, widths.qubits, words)?;
     let bit_list = listed(bit_count, widths.qubits, words)?;
     let qubits = list.get(..count)?;
     let bits = bit_list.get(..bit_count)?;
-    worked(words, |work| {
+    worked(lent, words, |work| {
         Answered::from(queries::marginal_probability(
             state.n,
             state.entries,
@@ -142,34 +169,27 @@ fn marginal<W: Words>(state: State, widths: Widths, words: &mut W) -> Option<boo
     })
 }
 
-fn probability<W: Words>(state: State, words: &mut W) -> Option<bool> {
+fn probability<W: Words>(state: State, lent: &mut [f64], words: &mut W) -> Option<bool> {
     let low = words.word()?;
     let high = words.word()?;
-    worked(words, |work| {
+    worked(lent, words, |work| {
         Told::from(queries::probability(state.n, state.entries, state.modes, low, high, work))
     })
 }
 
 // The output's words stand after the answer.
-fn sample<W: Words>(state: State, widths: Widths, words: &mut W) -> Option<bool> {
+fn sample<W: Words>(state: State, widths: Widths, lent: &mut [f64], words: &mut W) -> Option<bool> {
     let shots = size(words)?;
     let draw_count = size(words)?;
     let length = size(words)?;
     let draw_list = listed(draw_count, widths.draws, words)?;
     let draws = draw_list.get(..draw_count)?;
-    let mut out = [7u64; OUT];
-    let lent = out.get_mut(..length)?;
-    let same = worked(words, |work| {
-        Told::from(queries::sample(
-            state.n,
-            state.entries,
-            state.modes,
-            shots,
-            draws,
-            work,
-            lent,
-        ))
+    let out_words = stored_in(length, widths.output)?;
+    let mut out_space = [7u64; OUT];
+    let out = out_space.get_mut(..length)?;
+    let same = worked(lent, words, |work| {
+        Told::from(queries::sample(state.n, state.entries, state.modes, shots, draws, work, out))
     })?;
-    let written = out.get(..length.max(widths.output))?;
+    let written = out_space.get(..out_words)?;
     Some(compare(written, words).is_ok() && same)
 }
