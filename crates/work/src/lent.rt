@@ -1,7 +1,9 @@
 // The lent work as one value. Its floats and marks are slices that the caller lends, so that a record is read and written by its number, and by the column
 // or the place in it. That a record is
 // there (`Has`) is asked at each call, here and in the crates above: it is of the number, not of the work.
-ghost use Rattle.std.specs.Prelude.{◌≡◌, ◌+◌, ◌<◌, ◌≤◌, eqb, get_or, set, length, take, drop};
+ghost use Rattle.std.specs.Prelude.{◌≡◌, List, ℕ, ◌+◌, ◌<◌, ◌≤◌, eqb, get_or, set, length, take, drop};
+ghost use Rattle.std.specs.Borrow.{MutBor};
+ghost use Rattle.std.specs.Fn.{FnOnceReturnsAtMut};
 ghost use Rattle.std.proofs.Math.Seq.{paste};
 ghost use Rattle.gate.specs.Complex.{f0};
 ghost use Rattle.work.specs.Sizes.{record_marks, record_floats};
@@ -137,6 +139,17 @@ impl<'a> Work<'a> {
         let y = self.mark(b, c);
         self.put_mark(a, c, y);
         self.put_mark(b, c, x);
+    }
+
+    // The marks, lent to a call, which may leave others there; all else stays. By a closure: behind a `&mut` that is handed out could be left marks of
+    // another length, as far as a proof knows, and the records would not be there.
+    pub fn lend_marks<A, F: FnOnce(&mut [u32]) -> A>(&mut self, call: F) -> A
+        requires { Whole self.old → (lent : MutBor (List ℕ)) → lent.now ≡ self.old.marks → F.pre call lent }
+        ensures called { FnOnceReturnsAtMut F.FnOnce call self.old.marks result self.new.marks }
+        ensures rest { self.new ≡ with_marks self.old self.new.marks }
+        ensures whole { Whole self.old }
+    {
+        call(self.marks)
     }
 
     // ---- floats: methods of their own, since the two slices are of two types, with other record lengths

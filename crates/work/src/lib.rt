@@ -10,7 +10,8 @@ mod rows; // what the floats of a record hold
 mod sizes; // how many floats and marks a record has
 
 pub use columns::{
-    A, AT, B, C, CONTENT, EDGE_HI, EDGE_LO, HEAD, HI, LAB, LO, NEXT, ORDER, POS, START, WEIGHT,
+    A, AT, B, C, CONTENT, EDGE_HI, EDGE_LO, HEAD, HI, KIND, LAB, LO, NEXT, ORDER, POS, START,
+    WEIGHT,
 };
 pub use kinds::Kind;
 pub use lent::Work;
