@@ -6,7 +6,7 @@ use crate::count::count_all;
 use crate::report::{Report, report_of};
 use crate::tables::Tables;
 use fuse::relabel_all;
-use order::choose_order;
+use order::order_work;
 use resolve::{Rules, fuse_events};
 use tape::Header;
 use work::Work;
@@ -24,7 +24,7 @@ pub fn detect(tape: &[u8], h: Header, work: &mut Work) -> Report
         tol: h.tolerance,
     };
     let fused = fuse_events(work, rules, swaps);
-    let ordering = choose_order(work, h.reorders());
+    let ordering = order_work(work, h.reorders());
     let counts = count_all(work, h.tolerance);
     report_of(n, counts, fused, ordering, Tables::of(work))
 }

@@ -21,4 +21,4 @@ pub mod KeySteps
 pub mod OrderSteps
 pub mod Inverse
 pub mod Distances
-pub mod Rest
+pub mod SameMarks

@@ -1,4 +1,4 @@
--- The order of the wires: pair weights, the cover by paths, the arrangement and the choice; then the same in the lent work. Assumes nothing.
+-- The order of the wires: pair weights, the cover by paths, the arrangement and the choice; then the same in marks, and in the lent work. Assumes nothing.
 pub mod Weights
 pub mod Cover
 pub mod Arrangement
@@ -6,4 +6,5 @@ pub mod Choice
 pub mod Keys
 pub mod Pairs
 pub mod Slice
+pub mod Marks
 pub mod Lent

@@ -6,25 +6,25 @@ use Rattle.detect.specs.Compile.{reported_of}
 use Rattle.detect.proofs.Detecting.{wires-there, items-held, tables-there, parts, detects}
 use Rattle.detect.proofs.program.detect.Goals as goal
 
-pub choose_order-ordering-requires : goal.choose_order-ordering-requires
-choose_order-ordering-requires c = wires-there c.requires c.relabels-relabel.ensures c.relabel_all-swaps.ensures c.fuse_events-fused.ensures
+pub order_work-ordering-requires : goal.order_work-ordering-requires
+order_work-ordering-requires c = wires-there c.requires c.relabels-relabel.ensures c.relabel_all-swaps.ensures c.fuse_events-fused.ensures
 
 pub count_all-counts-requires : goal.count_all-counts-requires
 count_all-counts-requires c =
     items-held c.requires c.relabels-relabel.ensures c.relabel_all-swaps.ensures c.fuse_events-fused.ensures c.reorders.ensures
-    c.choose_order-ordering.ensures
+    c.order_work-ordering.ensures
 
 pub of-requires : goal.of-requires
 of-requires c =
     tables-there c.requires c.relabels-relabel.ensures c.relabel_all-swaps.ensures c.fuse_events-fused.ensures c.reorders.ensures
-    c.choose_order-ordering.ensures c.count_all-counts.ensures.kept
+    c.order_work-ordering.ensures c.count_all-counts.ensures.kept
 
 pub returns : goal.returns
 unfolding reported_of report_of
 returns c =
     let r = c.relabel_all-swaps.ensures in
     let f = c.fuse_events-fused.ensures in
-    let o = c.choose_order-ordering.ensures in
+    let o = c.order_work-ordering.ensures in
     let k = c.count_all-counts.ensures in
     let p = parts c.requires c.relabels-relabel.ensures r f c.reorders.ensures o k.kept in
     let n = c.slots-n.ensures.count ∙ c.requires.slots in

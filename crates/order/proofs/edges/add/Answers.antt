@@ -1,7 +1,6 @@
 -- `order::edges::add` meets its contract: an edge that is there grows, and a new one is appended. Assumes nothing.
 use mathlib.Core.Path.{refl}
 use native.Mathlib.Omega.{arith}
-use Rattle.order.proofs.Rest.{rest_same, rest-put}
 use Rattle.order.proofs.Chains.{found-few}
 use Rattle.order.proofs.EdgeSteps.{add-grows, add-appends}
 use Rattle.order.proofs.edges.add.Goals as goal
@@ -12,13 +11,13 @@ grow-requires c =
     (omega arith, c.requires.2 _ (omega arith))
 
 pub returns-in-Some : goal.returns-in-Some
-returns-in-Some c = rw c.grow.ensures.put (record {
-  rest = rest-put _ _ _ (rest_same _);
-  added = add-grows _ _ _ _ _ c.in-Some.ensures c.requires.3 (omega arith) _ _ refl refl;
-})
+returns-in-Some c = record {
+  same = c.grow.ensures.same;
+  added = add-grows _ _ _ _ _ c.in-Some.ensures c.requires.3 (omega arith) _ _ refl c.grow.ensures.now;
+}
 
 pub returns : goal.returns
-returns c = rw c.append.ensures.put (record {
-  rest = rest-put _ _ _ (rest_same _);
-  added = add-appends _ _ _ _ _ c.in_default.ensures c.requires.3 (omega arith) _ (omega arith) c.requires.1 refl refl;
-})
+returns c = record {
+  same = c.append.ensures.same;
+  added = add-appends _ _ _ _ _ c.in_default.ensures c.requires.3 (omega arith) _ (omega arith) c.requires.1 refl c.append.ensures.now;
+}

@@ -10,9 +10,9 @@ loop-i-init c = record { down = omega arith; sum = covered_none _ _ _; small = o
 pub loop-i-preserved : goal.loop-i-preserved
 loop-i-preserved c =
     let was = c.loop-i.invariant in
-    let marks = c.args.work.now.marks in
+    let marks = c.args.marks.now.entries.now in
     record {
       down = omega arith;
-      sum = covered_more _ (edge_at marks) _ _ _ _ (omega arith) (omega arith) was.sum c.covers.ensures.value;
+      sum = covered_more _ (edge_at marks) _ _ _ _ (omega arith) (omega arith) was.sum c.covers.ensures;
       small = omega arith;
     }

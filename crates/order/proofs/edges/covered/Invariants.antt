@@ -11,6 +11,6 @@ use Rattle.order.proofs.edges.covered.Given as goal
 abbrev pub invariant-loop-i : goal.invariant-loop-i
 invariant-loop-i l = record {
   down : l.i ≤ l.m;
-  sum : l.s ≡ covered_by (up_from (edge_at l.work.marks) l.i (l.m - l.i)) (column pos_column l.work.marks);
+  sum : l.s ≡ covered_by (up_from (edge_at l.marks.entries.now) l.i (l.m - l.i)) (column pos_column l.marks.entries.now);
   small : l.s + 0x1_0000_0000 * l.i ≤ 0x1_0000_0000 * l.m;
 }

@@ -4,7 +4,7 @@ use Rattle.order.proofs.Chains.{Walks}
 use Rattle.order.proofs.edges.edge_of.Given as goal
 
 abbrev pub invariant-loop-next : goal.invariant-loop-next
-invariant-loop-next l = Walks l.work.marks l.m l.pair (chain_mark l.next)
+invariant-loop-next l = Walks l.marks.entries.now l.m l.pair (chain_mark l.next)
 
 -- the chain goes down
 abbrev pub decreases-loop-next : goal.decreases-loop-next

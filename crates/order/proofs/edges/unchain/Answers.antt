@@ -1,15 +1,14 @@
--- `order::edges::unchain` meets its contract: the first w slots have no edge. Assumes nothing.
-use mathlib.Core.Path.{refl}
+-- `order::edges::unchain` meets its contract: the first w wires have no edge. Assumes nothing.
 use native.Mathlib.Omega.{arith}
-use Rattle.order.proofs.Rest.{rest-put}
+use Rattle.order.proofs.SameMarks.{same_then}
 use Rattle.order.proofs.Chains.{unchain-more}
 use Rattle.order.proofs.edges.unchain.Goals as goal
 
 pub loop-w-preserved : goal.loop-w-preserved
 loop-w-preserved c =
     let was = c.loop-w.invariant in
-    rw c.put_mark.ensures.put (record {
+    record {
       up = omega arith;
-      rest = rest-put _ _ _ was.rest;
-      unchained = unchain-more _ _ _ _ (omega arith) was.unchained refl;
-    })
+      same = same_then _ _ _ was.same c.put_mark.ensures.same;
+      unchained = unchain-more _ _ _ _ (omega arith) was.unchained c.put_mark.ensures.now;
+    }

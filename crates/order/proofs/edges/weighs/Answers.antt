@@ -12,8 +12,8 @@ loop-i-init c = record { down = omega arith; sum = weighs-none _ _; small = omeg
 pub loop-i-preserved : goal.loop-i-preserved
 loop-i-preserved c =
     let was = c.loop-i.invariant in
-    let marks = c.args.work.now.marks in
-    let weight = ap (λ (e : Edge). e.weight) c.edge_in.ensures.value in
+    let marks = c.args.marks.now.entries.now in
+    let weight = ap (λ (e : Edge). e.weight) c.edge_in.ensures in
     record {
       down = omega arith;
       sum = weighs-more (edge_at marks) _ _ _ _ (omega arith) (omega arith) was.sum weight;

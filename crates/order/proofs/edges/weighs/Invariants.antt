@@ -9,6 +9,6 @@ use Rattle.order.proofs.edges.weighs.Given as goal
 abbrev pub invariant-loop-i : goal.invariant-loop-i
 invariant-loop-i l = record {
   down : l.i ≤ l.m;
-  sum : l.s ≡ weighs_of (up_from (edge_at l.work.marks) l.i (l.m - l.i));
+  sum : l.s ≡ weighs_of (up_from (edge_at l.marks.entries.now) l.i (l.m - l.i));
   small : l.s + 0x1_0000_0000 * l.i ≤ 0x1_0000_0000 * l.m;
 }
