@@ -49,6 +49,15 @@ impl<'a> Work<'a> {
         }
     }
 
+    // Both slices again, with what the work left there: who lent them reads it when the work is no more.
+    pub fn into_slices(self) -> (&'a mut [f64], &'a mut [u32])
+        ensures floats { result.0.now ≡ self.entry.floats }
+        ensures marks { result.1.now ≡ self.entry.marks }
+        ensures whole { Whole self.entry }
+    {
+        (self.floats, self.marks)
+    }
+
     pub fn gates(&self) -> usize
         ensures count { result ≡ self.now.gates }
         ensures whole { Whole self.now }
@@ -141,8 +150,8 @@ impl<'a> Work<'a> {
         self.put_mark(b, c, x);
     }
 
-    // The marks, lent to a call, which may leave others there; all else stays. By a closure: behind a `&mut` that is handed out could be left marks of
-    // another length, as far as a proof knows, and the records would not be there.
+    // The marks, lent to a call, which may leave others there; all else stays. By a closure and no `&mut` that is handed out: of what a borrower leaves behind
+    // one no proof knows the length, so that the records might be gone.
     pub fn lend_marks<A, F: FnOnce(&mut [u32]) -> A>(&mut self, call: F) -> A
         requires { Whole self.old → (lent : MutBor (List ℕ)) → lent.now ≡ self.old.marks → F.pre call lent }
         ensures called { FnOnceReturnsAtMut F.FnOnce call self.old.marks result self.new.marks }
