@@ -49,6 +49,9 @@ pub fn put(l: &mut [f64], x: &[f64]) -> usize
     ensures put { l.new ≡ paste l.old 0 x.now op_places }
     ensures count { result ≡ op_places }
 {
-    l[..OP_PLACES].copy_from_slice(x);
+    // place by place: a copy of slices would need memmove of the C library
+    for k in 0..OP_PLACES {
+        l[k] = x[k];
+    }
     OP_PLACES
 }
