@@ -5,6 +5,7 @@
 ghost use Rattle.std.specs.Prelude.{◌≡◌, ◌+◌, ◌*◌, ◌/◌, ◌≤◌, ◌<◌, map, length, get_or};
 ghost use Rattle.std.specs.Float.{binary64};
 ghost use Rattle.std.specs.Float.Ieee.{mul};
+ghost use Rattle.laws.specs.Slices.{filled};
 ghost use Rattle.laws.specs.Matrix.{matrix};
 ghost use Rattle.laws.specs.Bounds.{max_qubits};
 ghost use Rattle.real.specs.Squares.{cells, Becomes};
@@ -114,12 +115,12 @@ pub fn ask(checked: Checked, list: &[u16], asked: &[Option<bool>], m: &mut Squar
     shift_pairs(m, list, asked);
 }
 
-// Every entry is zero.
-pub fn clear(m: &mut Square)
-    ensures { Becomes m.old m.new (cleared m.old.dim m.old.entries.now) }
+// Every entry is x.
+pub fn fill(m: &mut Square, x: f64)
+    ensures { Becomes m.old m.new (filled (m.old.dim * m.old.dim) x m.old.entries.now) }
 {
     let places = m.dim * m.dim;
-    m.entries[..places].fill(0.0);
+    m.entries[..places].fill(x);
 }
 
 // The Pfaffian of the matrix in work, which is then zero.
@@ -128,6 +129,6 @@ pub fn pfaffian_cleared(m: &mut Square) -> End
     ensures work { Becomes m.old m.new (cleared m.old.dim m.old.entries.now) }
 {
     let end = pfaffian::pfaffian(m);
-    clear(m);
+    fill(m, 0.0);
     end
 }

@@ -11,7 +11,7 @@ ghost use Rattle.queries.specs.Samples.{draw_ok_of, bad_draw_of, sampled};
 ghost use Rattle.queries.specs.Calls.{covariance_of, shots_of, shots_out, sample_of, sample_work, sample_out};
 ghost use Rattle.queries.specs.Inner.{row_laid};
 
-use super::matrices::clear;
+use super::matrices::fill;
 use pfaffian::shot;
 use real::{Square, entry};
 use state::{Checked, Refusal};
@@ -130,6 +130,6 @@ pub fn sample(
     }
     let mut m = Square { entries: work, dim };
     let answer = sample_worked(checked, shots, draws, &mut m, out);
-    clear(&mut m);
+    fill(&mut m, 0.0);
     answer
 }

@@ -31,10 +31,10 @@ returns c =
     let r = c.sample_worked-answer.ensures in
     let fits = le-leb _ _ c.if-work-dim.false in
     let dim = 2 * a.n in
-    let clears = c.clear.ensures in
-    let left : _ ≡ c.clear.new.m.entries.now = search rules in
+    let fills = c.fill.ensures in
+    let left : _ ≡ c.fill.new.m.entries.now = search rules in
     record {
       answer = rw (e.0, fits) (r.answer ∙ (λ t. shots_of (e.1 t) a.shots a.draws.now a.out.now));
-      work = rw (e.0, fits) (left ∙ rw r.kept.same.dim at clears.now ∙ filled_is dim +0 a.work.now _ _ r.kept.kept);
+      work = rw (e.0, fits) (left ∙ rw r.kept.same.dim at fills.now ∙ filled_is dim +0 a.work.now _ _ r.kept.kept);
       out = rw (e.0, fits) (r.out ∙ (λ t. shots_out (covariance_of (e.1 t) (e.2 t)) (e.1 t) (e.3 t) a.shots a.draws.now a.out.now));
     }
