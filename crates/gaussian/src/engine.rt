@@ -1,8 +1,10 @@
 // A tape run: the questions in their order, the operations, the state. Tape, work, marks and operations come one by one, as C hands them over.
-ghost use Rattle.std.specs.Prelude.{◌≡◌};
+ghost use Rattle.std.specs.Prelude.{◌≡◌, ◌≤◌};
+ghost use Rattle.laws.specs.Bounds.{max_qubits};
 ghost use Rattle.detect.specs.Told.{told};
 ghost use Rattle.claim.specs.Queries.{answer};
-ghost use Rattle.gaussian.specs.Run.{ran, ran_work, ran_marks, ran_ops, ran_state};
+ghost use Rattle.gaussian.specs.Run.{verdict_of, ran, ran_work, ran_marks, ran_ops, ran_state};
+ghost use Rattle.gaussian.specs.Told.{Says};
 ghost use Rattle.gaussian.specs.Claim.{left_by, RegisterClaim};
 ghost use Rattle.gaussian.specs.Signs.{SignClaim};
 ghost use Rattle.gaussian.specs.Beside.{PlainRun};
@@ -10,6 +12,7 @@ ghost use Rattle.gaussian.specs.Beside.{PlainRun};
 use crate::questions::verdict;
 use detect::{Refusal, Report, compile_judged};
 use evolve::evolve;
+use tape::Header;
 
 // A tape run: its report, its operations, and the state that they make of the vacuum. `work` and `marks` are lent to work in: from question 9 on the places
 // that it names are zero afterwards, whatever the answer. A refusal leaves the operations and the state alone. The last three clauses are the register claim,
@@ -35,7 +38,12 @@ pub fn run(
 {
     let room = ops.len();
     let places = state.len();
-    let r = compile_judged(tape, work, marks, ops, |h, r| verdict(h, r, room, places))?;
+    // its clause is that of `verdict`: what it says is proved here, and the answer below by the clause alone
+    let judge = |h: Header, r: Report| -> Result<(), Refusal>
+        requires { h.n ≤ max_qubits }
+        ensures { Says result (verdict_of h r r.operations room places) }
+    { verdict(h, r, room, places) };
+    let r = compile_judged(tape, work, marks, ops, judge)?;
     evolve(r.n, r.operations as usize, ops, state);
     Ok(r)
 }
