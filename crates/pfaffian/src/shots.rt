@@ -3,6 +3,7 @@
 // are laid, negated, over its rows, which are not read again. A fresh matrix and a used one are the same slice, so that a flag tells them apart.
 
 ghost use Rattle.std.specs.Prelude.{◌≡◌, false, ◌+◌, ◌*◌, ◌≤◌, ◌<◌, length, get_or};
+ghost use Rattle.std.specs.Float.{nan};
 ghost use Rattle.laws.specs.Tables.{mode_at};
 ghost use Rattle.real.specs.Squares.{cells, Becomes};
 ghost use Rattle.pfaffian.specs.Work.{Works};
@@ -101,30 +102,38 @@ fn spin(one: bool) -> f64
     if one { -1.0 } else { 1.0 }
 }
 
-// A measured mode: its outcome, and whether the matrix is still fresh.
+// A measured mode: its outcome, whether the matrix is still fresh, and where the next draw stands.
 #[derive(Clone, Copy)]
 struct Measured {
     pub one: bool,
     pub fresh: bool,
+    pub next: usize,
 }
 
-// Mode k is measured with its draw.
-fn measure(m: &mut Square, k: usize, fresh: bool, draw: f64) -> Measured
-    requires { 2 * k + 2 ≤ m.old.dim }
-    ensures plain { Measures m.old.dim k draw fresh m.old.entries.now result.one result.fresh
+// Mode k is measured with the draw at `at`. The draw is used whatever den is.
+fn measure(m: &mut Square, k: usize, fresh: bool, draws: &[f64], at: usize) -> Measured
+    requires rows { 2 * k + 2 ≤ m.old.dim }
+    requires at_in_bounds { at < length draws.now }
+    ensures plain { Measures m.old.dim k (get_or draws.now at nan) fresh m.old.entries.now result.one result.fresh
         m.new.entries.now }
+    ensures used { result.next ≡ at + 1 }
     ensures kept { Works m.old m.new }
 {
     let a = 2 * k;
     let mab = clamp(m.entry(a, a + 1), -1.0, 1.0);
-    let one = drawn(mab, draw);
+    let one = drawn(mab, draws[at]);
+    let next = at + 1;
     let s = spin(one);
     let den = 1.0 + s * mab;
     if den <= 1e-300 {
-        return Measured { one, fresh };
+        return Measured { one, fresh, next };
     }
     update(m, a, s / den, fresh);
-    Measured { one, fresh: false }
+    Measured {
+        one,
+        fresh: false,
+        next,
+    }
 }
 
 // All n modes in their order: mode k uses draw k, and bits[k] is its outcome. The slices may be longer than n: what comes after is not read.
@@ -136,10 +145,12 @@ fn measure_modes(m: &mut Square, n: usize, draws: &[f64], bits: &mut [bool])
     ensures kept { Works m.old m.new }
 {
     let mut fresh = true;
+    let mut next = 0;
     for k in 0..n {
-        let r = measure(m, k, fresh, draws[k]);
+        let r = measure(m, k, fresh, draws, next);
         bits[k] = r.one;
         fresh = r.fresh;
+        next = r.next;
     }
 }
 

@@ -1,5 +1,6 @@
 -- `pfaffian::shots::measure_modes` meets its contract: the matrix stands for the one that mode k finds (`stands-turn`). Assumes nothing.
 use mathlib.Core.Path.{ap, sym, ◌∙◌}
+use Prim.Native.Nat.{◌+◌}
 use native.Mathlib.Nat.{zero-add}
 use native.Mathlib.Omega.{arith}
 use lib.ListN.{get_or, length-set}
@@ -25,8 +26,8 @@ loop-k-preserved c =
     let kept = rw is at r.ensures.kept.kept in
     let d = draw_from c.args.draws.now 0 in
     let w = stands-turn c.args.m.now.dim l.k e d _ l.fresh _ _ l.m.entries.now _
-    (ap (λ i. get_or c.args.draws.now i nan) (sym (zero-add l.k))) l.invariant.2 (rw is at r.ensures.plain) in (
-      (omega arith, length-set l.bits _ _ ∙ l.invariant.0.1),
+    (ap (λ i. get_or c.args.draws.now i nan) (l.invariant.0.1 ∙ sym (zero-add l.k))) l.invariant.2 (rw is at r.ensures.plain) in (
+      (omega arith, r.ensures.used ∙ ap (λ i. i + 1) l.invariant.0.1, length-set l.bits _ _ ∙ l.invariant.0.2),
       record {
         same = same_then _ _ _ l.invariant.1.same r.ensures.kept.same;
         kept = kept_then _ _ l.m.entries.now _ l.invariant.1.kept kept;

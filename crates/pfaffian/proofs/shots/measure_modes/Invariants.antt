@@ -10,6 +10,6 @@ use Rattle.pfaffian.proofs.shots.measure_modes.Given as goal
 
 abbrev pub invariant-loop-k : goal.invariant-loop-k
 invariant-loop-k l =
-    ((l.k ≤ l.n) × (length l.bits ≡ length l.initial.bits)) × Works l.initial.m l.m
+    ((l.k ≤ l.n) × (l.next ≡ l.k) × (length l.bits ≡ length l.initial.bits)) × Works l.initial.m l.m
     × Stands l.initial.m.dim l.k l.fresh (reached (cells l.initial.m) (draw_from l.draws 0) l.k) l.m.entries.now
     × Listed l.k (shot (cells l.initial.m) 0 l.n (draw_from l.draws 0)) l.initial.bits l.bits
