@@ -32,11 +32,13 @@ unfolding in_order held_in
 loop-op-init c =
     let made = c.into_iter-op-iterator.ensures.into_iter_gives in
     let chunks = c.chunks_exact-op-items.ensures in
-    let rest : c.into_iter-op-iterator.result.rest.now ≡ take (op_places * c.args.count) c.args.ops.now = ap (λ s. s.rest.now) made ∙ chunks.rest in (
+    let first = c.into_iter-op-iterator.result.rest.now in (
       ap (λ s. s.size) made ∙ chunks.size,
-      omega (arith, ap length rest, length-take (op_places * c.args.count) c.args.ops.now, c.requires.count_in_bounds),
-      ap (λ m. m ++ drop (op_places * c.args.count) c.args.ops.now) rest ∙ take-append-drop (op_places * c.args.count) c.args.ops.now,
-      c.vacuum.ensures,
+      (let rest : first ≡ take (op_places * c.args.count) c.args.ops.now = ap (λ s. s.rest.now) made ∙ chunks.rest in
+          omega (arith, ap length rest, length-take (op_places * c.args.count) c.args.ops.now, c.requires.count_in_bounds)),
+      (let rest : first ≡ take (op_places * c.args.count) c.args.ops.now = ap (λ s. s.rest.now) made ∙ chunks.rest in
+          ap (λ m. m ++ drop (op_places * c.args.count) c.args.ops.now) rest ∙ take-append-drop (op_places * c.args.count) c.args.ops.now),
+      (let empty : c.vacuum.new.state ≡ stored (dim_of c.args.n) vacuum c.args.state.now = c.vacuum.ensures in empty),
     )
 
 pub loop-op-preserved : goal.loop-op-preserved
