@@ -1,5 +1,6 @@
 -- Laws on the definitions of `queries`, for other crates to cite. Assumes nothing.
 pub mod Searches
+pub mod Among
 pub mod First
 pub mod Marking
 pub mod Stopping

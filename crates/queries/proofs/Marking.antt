@@ -103,6 +103,12 @@ asked_one None = refl
 asked_one (Some true) = refl
 asked_one (Some false) = refl
 
+-- who is asked for nothing is asked for no one
+pub unasked-one : (o : Option Bool) → ltb 0 (mark_of o) ≡ false → is_one (mark_of o) ≡ false
+unasked-one None e = refl
+unasked-one (Some true) e = e
+unasked-one (Some false) e = refl
+
 -- ---- a marginal: what a place without contradiction notes
 
 module _ (m b : ℕ → ℕ) where

@@ -1,5 +1,5 @@
 -- What the inner functions ask and give: marks of modes, a list of modes, a matrix in work. Definitions only. Only inner functions rest on this.
-use Rattle.std.specs.Prelude.{◌≡◌, Bool, true, false, Option, Some, None, List, suc, ℕ, ◌+◌, ◌*◌, ◌≤◌, ◌<◌, get_or, length, set, Float}
+use Rattle.std.specs.Prelude.{◌≡◌, Bool, true, false, not, cond, Option, Some, None, List, [], ◌∷◌, suc, ℕ, ◌+◌, ◌*◌, ◌≤◌, ◌<◌, get_or, length, set, Float}
 use Rattle.std.specs.Float.{binary64}
 use Rattle.std.specs.Float.Ieee.{add, sub}
 use Rattle.laws.specs.Matrix.{Mat, at, matrix}
@@ -45,6 +45,11 @@ Says n qs place Contradictory = (place < length qs) × (get_or qs place 0 < n)
 -- the modes of the list are below n
 abbrev pub Below : ℕ → List ℕ → Type 0
 Below n list = (j : ℕ) → j < length list → get_or list j 0 < n
+
+-- those of a list that pass are odd in number
+unfoldable pub odd_among : (ℕ → Bool) → List ℕ → Bool
+odd_among p [] = false
+odd_among p (k ∷ ks) = cond (p k) (not (odd_among p ks)) (odd_among p ks)
 
 -- every entry
 abbrev pub everywhere : Mask

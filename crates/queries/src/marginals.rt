@@ -3,11 +3,11 @@
 ghost use Rattle.std.specs.Prelude.{◌≡◌, length};
 ghost use Rattle.std.specs.Float.{binary64};
 ghost use Rattle.std.specs.Float.Ieee.{mul};
-ghost use Rattle.queries.specs.Lists.{oddly};
-ghost use Rattle.queries.specs.Marginals.{is_one, sign_of, at_least_zero_of};
+ghost use Rattle.laws.specs.Zeros.{+1, sg};
+ghost use Rattle.queries.specs.Marginals.{is_one, at_least_zero_of};
 ghost use Rattle.queries.specs.Answers.{taken_apart, answered};
 ghost use Rattle.queries.specs.Calls.{covariance_of, marked_answer, marked_work, marginal_probability_of, marginal_probability_work};
-ghost use Rattle.queries.specs.Inner.{mark_at};
+ghost use Rattle.queries.specs.Inner.{mark_at, Below, odd_among};
 
 use super::lists::{Noted, Span, check_bits, list_modes, note_bits};
 use super::matrices::{ask, pfaffian_cleared};
@@ -17,22 +17,24 @@ use pfaffian::End;
 use real::Square;
 use state::{Checked, Refusal};
 
-// The modes asked for a one are odd in number.
-fn odd_ones(asked: &[Option<bool>]) -> bool
-    ensures { result ≡ oddly (λ k. is_one (mark_at asked.now k)) (length asked.now) }
+// The listed modes that are asked for a one are odd in number. By the list: a walk over what is asked of all modes took as long as the rest of a query of one.
+fn odd_ones(asked: &[Option<bool>], list: &[u16]) -> bool
+    requires { Below (length asked.now) list.now }
+    ensures { result ≡ odd_among (λ k. is_one (mark_at asked.now k)) list.now }
 {
     let mut odd = false;
-    for bit in asked {
-        odd ^= bit.unwrap_or(false);
+    for j in 0..list.len() {
+        odd ^= asked[usize::from(list[j])].unwrap_or(false);
     }
     odd
 }
 
 // -1.0 for an odd number of ones, else 1.0.
-fn sign(asked: &[Option<bool>]) -> f64
-    ensures { result ≡ sign_of (length asked.now) (mark_at asked.now) }
+fn sign(asked: &[Option<bool>], list: &[u16]) -> f64
+    requires { Below (length asked.now) list.now }
+    ensures { result ≡ sg (odd_among (λ k. is_one (mark_at asked.now k)) list.now) +1 }
 {
-    if odd_ones(asked) { -1.0 } else { 1.0 }
+    if odd_ones(asked, list) { -1.0 } else { 1.0 }
 }
 
 // Rust's `max(0.0)`, with 0.0 for either zero: which of them std's gives is left open.
@@ -75,7 +77,7 @@ pub fn marked_probability(
     let mut m = Square { entries: work, dim };
     ask(checked, list.as_slice(), asked, &mut m);
     let end = pfaffian_cleared(&mut m);
-    Ok(marginal_number(sign(asked), end))
+    Ok(marginal_number(sign(asked, list.as_slice()), end))
 }
 
 // The probability that the listed qubits read their bits: questions 16, 18, 19 and 20. A list that contradicts itself has the probability

@@ -1,16 +1,17 @@
 -- `queries::marginals::odd_ones` meets its contract: the parity of the modes passed. Assumes nothing.
-use Rattle.std.proofs.Common.{◌≡◌, Bool, true, false, not, cond, refl, ap, ◌∙◌}
+use Rattle.std.proofs.Common.{◌≡◌, Bool, true, false, not, cond, refl, ap, sym, ◌∙◌, get_or, take, None}
 use mathlib.Core.Bool.{beq}
-use Rattle.queries.specs.Lists.{oddly}
+use native.Mathlib.Numerals.{add-one}
+use lib.Seq.{take-suc}
 use Rattle.queries.specs.Marginals.{is_one}
-use Rattle.queries.specs.Inner.{mark_at}
-use Rattle.queries.proofs.Searches.{odd-more}
+use Rattle.queries.specs.Inner.{mark_at, odd_among}
+use Rattle.queries.proofs.Among.{among-more}
 use Rattle.queries.proofs.Marking.{asked_one}
 use Rattle.queries.proofs.marginals.odd_ones.Goals as goal
 
-pub loop-bit-init : goal.loop-bit-init
-unfolding oddly
-loop-bit-init c = refl
+pub loop-j-init : goal.loop-j-init
+unfolding odd_among
+loop-j-init c = refl
 
 xor : (a b : Bool) → not (beq a b) ≡ cond b (not a) a
 xor true true = refl
@@ -18,8 +19,13 @@ xor true false = refl
 xor false true = refl
 xor false false = refl
 
-pub loop-bit-preserved : goal.loop-bit-preserved
-loop-bit-preserved c =
-    let l = c.loop-bit in
-    odd-more (λ k. is_one (mark_at c.args.asked.now k)) l.bit-index _ _ l.invariant
-    (xor l.odd _ ∙ ap (λ b. cond b (not l.odd) l.odd) (c.unwrap_or-odd.ensures ∙ asked_one _))
+pub loop-j-preserved : goal.loop-j-preserved
+loop-j-preserved c =
+    let l = c.loop-j in
+    let list = c.args.list.now in
+    let asked = c.args.asked.now in
+    let k = get_or list l.j 0 in
+    let more = take-suc list l.j 0 c.loop-j-test.true in
+    let one : c.unwrap_or-odd.result ≡ is_one (mark_at asked k) = rw c.from.ensures at c.unwrap_or-odd.ensures ∙ asked_one (get_or asked k None) in
+    xor l.odd _ ∙ ap (λ b. cond b (not l.odd) l.odd) one ∙ ap (λ o. cond (is_one (mark_at asked k)) (not o) o) l.invariant
+    ∙ sym (among-more (λ k. is_one (mark_at asked k)) (take l.j list) k) ∙ ap (odd_among (λ k. is_one (mark_at asked k))) (sym more ∙ ap (λ j. take j list) (sym (add-one l.j)))
