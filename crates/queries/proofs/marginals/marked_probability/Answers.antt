@@ -53,7 +53,8 @@ sign-requires c =
     let n = c.args.checked.n in
     let p : ℕ → Bool = λ k. ltb 0 (mark_at c.args.asked.now k) in
     let list = c.as_slice-2.result.now in
-    let same = c.as_slice-2.ensures.value ∙ k.ensures.modes n p (spans-all n p) (λ k b h g. let e = is_asked (get_or c.args.asked.now k None) in search rules) in
+    let is = k.ensures.modes n p (spans-all n p) (λ k b h g. let e = is_asked (get_or c.args.asked.now k None) in search rules) in
+    let same = c.as_slice-2.ensures.value ∙ is in
     passing-below n _ p list (le_of_eq (sym c.requires)) same
 
 pub returns : goal.returns
@@ -77,8 +78,10 @@ returns c =
     let e : c.ask.new.m.entries.now ≡ matrix (2 * length list) (F list) w = rw long c.ask.ensures.now in
     let left : _ ≡ c.pfaffian_cleared-end.new.m.entries.now = search rules in
     let x = rw is at f.value ∙ value-left l count list long same F w _ room e in
-    let all = c.as_slice-2.ensures.value ∙ k.ensures.modes n p (spans-all n p) (λ k b h g. let e = is_asked (get_or c.args.asked.now k None) in search rules) in
-    let s = c.sign.ensures ∙ ap (λ list. sg (odd_among (λ k. is_one (mark k)) list) +1) all ∙ ap (λ o. sg o +1) (among-passing (λ k. is_one (mark k)) p n (λ k g. unasked-one (get_or c.args.asked.now k None))) in
+    let ones : ℕ → Bool = λ k. is_one (mark k) in
+    let all = c.as_slice-2.ensures.value ∙ sym c.as_slice.ensures.value ∙ same in
+    let parity = among-passing ones p n (λ k g. unasked-one (get_or c.args.asked.now k None)) in
+    let s = c.sign.ensures ∙ ap (λ list. sg (odd_among ones list) +1) all ∙ ap (λ o. sg o +1) parity in
     record {
       answer = rw fits (ap given (c.marginal_number.ensures ∙ (λ t. taken_apart (λ x. at_least_zero_of (mul binary64 (s t) x)) (x t))));
       work = rw fits (left ∙ rw is at f.work.now ∙ work-left l count list long same F w _ room e);

@@ -1,5 +1,5 @@
 -- `queries::marginals::odd_ones` meets its contract: the parity of the modes passed. Assumes nothing.
-use Rattle.std.proofs.Common.{◌≡◌, Bool, true, false, not, cond, refl, ap, sym, ◌∙◌, get_or, take, None}
+use Rattle.std.proofs.Common.{◌≡◌, ℕ, Bool, true, false, not, cond, refl, ap, sym, ◌∙◌, get_or, take, None}
 use mathlib.Core.Bool.{beq}
 use native.Mathlib.Numerals.{add-one}
 use lib.Seq.{take-suc}
@@ -25,7 +25,8 @@ loop-j-preserved c =
     let list = c.args.list.now in
     let asked = c.args.asked.now in
     let k = get_or list l.j 0 in
+    let p : ℕ → Bool = λ k. is_one (mark_at asked k) in
     let more = take-suc list l.j 0 c.loop-j-test.true in
     let one : c.unwrap_or-odd.result ≡ is_one (mark_at asked k) = rw c.from.ensures at c.unwrap_or-odd.ensures ∙ asked_one (get_or asked k None) in
-    xor l.odd _ ∙ ap (λ b. cond b (not l.odd) l.odd) one ∙ ap (λ o. cond (is_one (mark_at asked k)) (not o) o) l.invariant
-    ∙ sym (among-more (λ k. is_one (mark_at asked k)) (take l.j list) k) ∙ ap (odd_among (λ k. is_one (mark_at asked k))) (sym more ∙ ap (λ j. take j list) (sym (add-one l.j)))
+    xor l.odd _ ∙ ap (λ b. cond b (not l.odd) l.odd) one ∙ ap (λ o. cond (p k) (not o) o) l.invariant
+    ∙ sym (among-more p (take l.j list) k) ∙ ap (odd_among p) (sym more ∙ ap (λ j. take j list) (sym (add-one l.j)))
