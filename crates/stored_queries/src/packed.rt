@@ -60,8 +60,8 @@ impl<'a> Words for Packed<'a> {
 pub struct Numbered<W> {
     all: W,
     rest: W,
-    at: usize, // the number of the next word, at which `rest` stands if it is there
-    many: usize,
+    pub at: usize, // the number of the next word, at which `rest` stands if it is there
+    pub many: usize,
 }
 
 impl<W: Words> Numbered<W> {
