@@ -5,7 +5,7 @@ use classify::Class2;
 use gate::{Complex, Mat2, Mat4, Matrix, Row4};
 use real::{Map2, Map4, Real4};
 use stored::MAX_RECORDS;
-use stored::records::{Tag, numbered};
+use stored::records::{AnyTag, numbered};
 use stored::values::{Stored, compare, list};
 use stored::words::{Plain, Words};
 
@@ -20,7 +20,7 @@ pub enum Block {
 // Each with the words of its record, in the order of their tags, the first of which is 1.
 const BLOCKS: [(Block, usize); 3] = [(Block::One, 14), (Block::Two, 71), (Block::Phases, 26)];
 
-impl Tag for Block {
+impl AnyTag for Block {
     const RECORDS: usize = MAX_RECORDS;
 
     fn of(word: u64) -> Option<Block> {

@@ -10,14 +10,14 @@ use blocks::Block;
 use reading::large_buffer;
 use std::io;
 use std::rt::Files;
-use stored::records::Records;
+use stored::records::AnyRecords;
 use tallies::Tallies;
 
 fn replay(rt: &(impl Files + Print + Eprint), path: &str) -> io::Result<()> {
     let mut space = large_buffer();
     let n = stored::named_list(rt, path.as_bytes(), &mut space)?;
     let mut tallies = Tallies::default();
-    for (block, mut words) in Records::<Block>::new(&space[..n]) {
+    for (block, mut words) in AnyRecords::<Block>::new(&space[..n]) {
         let Some(block) = block else {
             continue;
         };

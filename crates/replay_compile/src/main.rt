@@ -8,14 +8,14 @@ mod tapes; // tapes.rt: a tape compiled in lent slices
 use reading::large_buffer;
 use std::io;
 use std::rt::Files;
-use stored::records::{Records, Taped};
+use stored::records::{AnyRecords, Taped};
 use tapes::Tallies;
 
 fn replay(rt: &(impl Files + Print + Eprint), path: &str) -> io::Result<()> {
     let mut space = large_buffer();
     let n = stored::named_list(rt, path.as_bytes(), &mut space)?;
     let mut tallies = Tallies::default();
-    for (_, record) in Records::<Taped>::new(&space[..n]) {
+    for (_, record) in AnyRecords::<Taped>::new(&space[..n]) {
         if tapes::replay(record, &mut tallies).is_none() {
             tallies.unreadable();
         }

@@ -11,14 +11,14 @@ mod tapes; // tapes.rt: a tape fused in lent work
 use reading::large_buffer;
 use std::io;
 use std::rt::Files;
-use stored::records::{Records, Taped};
+use stored::records::{AnyRecords, Taped};
 use tallies::Tallies;
 
 fn replay(rt: &(impl Files + Print + Eprint), path: &str) -> io::Result<()> {
     let mut space = large_buffer();
     let n = stored::named_list(rt, path.as_bytes(), &mut space)?;
     let mut tallies = Tallies::default();
-    for (taped, record) in Records::<Taped>::new(&space[..n]) {
+    for (taped, record) in AnyRecords::<Taped>::new(&space[..n]) {
         let taped = taped.unwrap_or(Taped::Angled);
         if tapes::compare(taped, record, &mut tallies).is_none() {
             tallies.unreadable();

@@ -1,6 +1,6 @@
 // The leaves: their names, the tags of their records, and how many words follow each.
 use stored::MAX_RECORDS;
-use stored::records::{Tag, numbered};
+use stored::records::{AnyTag, numbered};
 use stored::words::Plain;
 
 #[derive(Clone, Copy)]
@@ -37,7 +37,7 @@ pub const LEAVES: [(Leaf, &str, usize); 13] = [
     (Leaf::SwapQubits, "mat4_swap_qubits", 64),
 ];
 
-impl Tag for Leaf {
+impl AnyTag for Leaf {
     const RECORDS: usize = MAX_RECORDS;
 
     fn of(word: u64) -> Option<Leaf> {

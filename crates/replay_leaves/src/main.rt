@@ -11,7 +11,7 @@ use reading::large_buffer;
 use std::io;
 use std::rt::Files;
 use stored::Tally;
-use stored::records::Records;
+use stored::records::AnyRecords;
 use stored::values::Stored;
 use stored::words::{Plain, size};
 
@@ -76,7 +76,7 @@ fn agrees(leaf: Leaf, words: &mut Plain) -> Option<bool> {
 fn replay(rt: &(impl Files + Print + Eprint), path: &str) -> io::Result<()> {
     let mut space = large_buffer();
     let n = stored::read_list(rt, path.as_bytes(), &mut space)?;
-    let mut records = Records::<Leaf>::new(&space[..n]);
+    let mut records = AnyRecords::<Leaf>::new(&space[..n]);
     // beside the table of names, by the case's number: no heap, so no map
     let mut tallies = [Tally::default(); LEAVES.len()];
     for (leaf, mut words) in &mut records {

@@ -8,14 +8,14 @@ mod tapes; // tapes.rt: a tape run in lent slices
 use reading::large_buffer;
 use std::io;
 use std::rt::Files;
-use stored::records::{Records, Taped};
+use stored::records::{AnyRecords, Taped};
 use stored_queries::counts::Counts;
 
 fn replay(rt: &(impl Files + Print + Eprint), path: &str) -> io::Result<()> {
     let mut space = large_buffer();
     let n = stored::named_list(rt, path.as_bytes(), &mut space)?;
     let mut counts = Counts::default();
-    for (tape, (_, record)) in Records::<Taped>::new(&space[..n]).enumerate() {
+    for (tape, (_, record)) in AnyRecords::<Taped>::new(&space[..n]).enumerate() {
         if tapes::replay(record, tape, &mut counts).is_none() {
             counts.answers.note(tape, Err(0));
         }

@@ -1,5 +1,5 @@
 // The records of a list: states, and calls on the state that is held.
-use stored::records::{Tag, counted};
+use stored::records::{AnyTag, counted};
 use stored::words::Plain;
 use stored_queries::asked::Query;
 
@@ -12,7 +12,7 @@ pub enum Call {
     Matrix, // what the plain engine's matrix must be now
 }
 
-impl Tag for Call {
+impl AnyTag for Call {
     const RECORDS: usize = 4096;
 
     fn of(word: u64) -> Option<Call> {

@@ -13,7 +13,7 @@ use reading::large_buffer;
 use std::io;
 use std::rt::Files;
 use stored::Tally;
-use stored::records::Records;
+use stored::records::AnyRecords;
 use stored::words::{Padded, Plain, Words};
 use stored_queries::asked::{QUERIES, Query};
 
@@ -90,7 +90,7 @@ fn replay(rt: &(impl Files + Print + Eprint), path: &str, both: bool) -> io::Res
     let n = stored::named_list(rt, path.as_bytes(), &mut space)?;
     let mut held = Some(Held::none());
     let mut tallies = Tallies::default();
-    for (call, record) in Records::<Call>::new(&space[..n]) {
+    for (call, record) in AnyRecords::<Call>::new(&space[..n]) {
         let Some(call) = call else {
             continue;
         };

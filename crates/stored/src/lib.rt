@@ -17,3 +17,6 @@ pub use lists::{named_list, read_list};
 pub use records::MAX_RECORDS;
 pub use rooms::{FLOATS, MARKS, PLACES, STATE, WORK};
 pub use tally::{Tally, print_tally};
+
+#[cfg(test)]
+mod tests;

@@ -1,6 +1,8 @@
 // The records of a list: each is a tag and the words that follow it; the tag 0 ends the list.
-ghost use Rattle.std.specs.Prelude.{◌≡◌, ◌-◌, ◌≤◌, ◌↔◌, IsTrue, MatchOption, length, replicate, slice_index_or};
+ghost use Rattle.std.specs.Prelude.{◌≡◌, ◌+◌, ◌-◌, ◌≤◌, ◌↔◌, cond, eqb, Some, None, IfSome, IsTrue, MatchOption, length, drop, replicate, slice_index_or};
 ghost use Rattle.std.specs.Iterator.{at_most};
+ghost use Rattle.num.specs.Bits.{le64};
+ghost use Rattle.stored.specs.declared.records.Taped.TheVariants.{Exact, Angled};
 
 use crate::words::{Plain, Words, size};
 use std::marker::{Model, PhantomData};
@@ -11,8 +13,17 @@ pub const MAX_RECORDS: usize = 1024;
 // A record has fewer words after the one that counts them.
 const MANY: usize = 65000;
 
-// The tags of a list.
+// The tags of a list that ends at the first word that is none.
 pub trait Tag: Sized + Drop {
+    // Nothing where the word is no tag, as 0. Not `TryFrom`: nobody would read its error.
+    fn of(word: u64) -> Option<Self>;
+
+    // How many words follow the tag, where they begin with these.
+    fn length(&self, words: Plain) -> Option<usize>;
+}
+
+// The tags of a list that goes on after what is none: the programs read their lists so.
+pub trait AnyTag: Sized + Drop {
     // The list is read to so many records.
     const RECORDS: usize;
 
@@ -52,10 +63,12 @@ pub enum Taped {
     Angled,
 }
 
-impl Tag for Taped {
+impl AnyTag for Taped {
     const RECORDS: usize = MAX_RECORDS;
 
-    fn of(word: u64) -> Option<Taped> {
+    fn of(word: u64) -> Option<Taped>
+        ensures { result ≡ cond (eqb word 1) (Some Exact) (cond (eqb word 2) (Some Angled) None) }
+    {
         match word {
             1 => Some(Taped::Exact),
             2 => Some(Taped::Angled),
@@ -68,11 +81,27 @@ impl Tag for Taped {
     }
 }
 
+impl Tag for Taped {
+    fn of(word: u64) -> Option<Taped>
+        ensures { result ≡ cond (eqb word 1) (Some Exact) (cond (eqb word 2) (Some Angled) None) }
+    {
+        <Taped as AnyTag>::of(word)
+    }
+
+    // However many are counted.
+    fn length(&self, mut words: Plain) -> Option<usize>
+        ensures { IfSome result (λ many. many ≡ le64 (drop 8 words.entry.bytes.now) 0 + 2) }
+    {
+        words.word()?;
+        let last = words.word()? as usize;
+        last.checked_add(2)
+    }
+}
+
 // The records that are left: what a caller sees are their bytes.
 #[derive(Drop)]
 pub struct Records<'a, T> {
     rest: Plain<'a>,
-    left: usize, // records that are still to be read at most
     tags: PhantomData<T>,
 }
 
@@ -88,7 +117,58 @@ impl<'a, T: Tag> Records<'a, T> {
     pub fn new(list: &'a [u8]) -> Records<'a, T>
         ensures { result ≡ list.entry.now }
     {
+        let rest = Plain { bytes: list };
         Records {
+            rest,
+            tags: PhantomData,
+        }
+    }
+
+    // Whether the list ends here, with the tag 0 and nothing after it.
+    pub fn is_at_end(&self) -> bool
+        ensures { IsTrue result ↔ (self.now ≡ replicate 8 0) }
+    {
+        // how it ends is the same for all tags
+        AnyRecords::<Taped>::new(self.rest.bytes).is_at_end()
+    }
+}
+
+// Each record with its tag, up to the first that has none or is cut short.
+impl<'a, T: Tag> Iterator for Records<'a, T> {
+    type Item = (T, Plain<'a>);
+
+    ghost remaining = { λ s. at_most (length s) };
+
+    fn next(&mut self) -> Option<(T, Plain<'a>)> {
+        let mut words = self.rest;
+        let tag = T::of(words.word()?)?;
+        let (record, rest) = words.split(tag.length(words)?)?;
+        self.rest = rest;
+        Some((tag, record))
+    }
+}
+
+// The same of a list that goes on after what is no tag.
+#[derive(Drop)]
+pub struct AnyRecords<'a, T> {
+    rest: Plain<'a>,
+    left: usize, // records that are still to be read at most
+    tags: PhantomData<T>,
+}
+
+impl<'a, T> Model for AnyRecords<'a, T> {
+    ghost use Rattle.std.specs.Prelude.{ℕ, List};
+
+    ghost Value = { List ℕ };
+
+    ghost view = { λ records. records.rest.bytes.now };
+}
+
+impl<'a, T: AnyTag> AnyRecords<'a, T> {
+    pub fn new(list: &'a [u8]) -> AnyRecords<'a, T>
+        ensures { result ≡ list.entry.now }
+    {
+        AnyRecords {
             rest: Plain { bytes: list },
             left: T::RECORDS,
             tags: PhantomData,
@@ -104,7 +184,7 @@ impl<'a, T: Tag> Records<'a, T> {
 }
 
 // Each record with its tag, or with none: what that is and how long, each program says for itself, and passes over what it does not know.
-impl<'a, T: Tag> Iterator for Records<'a, T> {
+impl<'a, T: AnyTag> Iterator for AnyRecords<'a, T> {
     type Item = (Option<T>, Plain<'a>);
 
     ghost remaining = { λ s. at_most (length s) };
