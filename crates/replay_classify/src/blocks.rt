@@ -23,13 +23,13 @@ const BLOCKS: [(Block, usize); 3] = [(Block::One, 14), (Block::Two, 71), (Block:
 impl AnyTag for Block {
     const RECORDS: usize = MAX_RECORDS;
 
-    fn of(word: u64) -> Option<Block> {
+    fn tag_of(word: u64) -> Option<Block> {
         let (block, _) = numbered(&BLOCKS, 1, word)?;
         Some(block)
     }
 
     // No words follow what is no tag.
-    fn length(word: u64, _words: Plain) -> usize {
+    fn length_of(word: u64, _words: Plain) -> usize {
         match numbered(&BLOCKS, 1, word) {
             Some((_, words)) => words,
             None => 0,

@@ -40,13 +40,13 @@ pub const LEAVES: [(Leaf, &str, usize); 13] = [
 impl AnyTag for Leaf {
     const RECORDS: usize = MAX_RECORDS;
 
-    fn of(word: u64) -> Option<Leaf> {
+    fn tag_of(word: u64) -> Option<Leaf> {
         let (leaf, _, _) = numbered(&LEAVES, 1, word)?;
         Some(leaf)
     }
 
     // No words follow what is no tag.
-    fn length(word: u64, _words: Plain) -> usize {
+    fn length_of(word: u64, _words: Plain) -> usize {
         match numbered(&LEAVES, 1, word) {
             Some((_, _, words)) => words,
             None => 0,

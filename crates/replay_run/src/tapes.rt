@@ -106,7 +106,7 @@ impl<'a> Comparison<'a> {
     fn query(&mut self, query: Query, state: State, place: usize) {
         let mut asked = self.words;
         let mut work = [7.0; stored::WORK];
-        let agrees = query.agrees(state, Widths::default(), &mut work, &mut asked) == Some(true);
+        let agrees = query.agrees_in(state, Widths::default(), &mut work, &mut asked) == Some(true);
         self.counts.queries[query as usize].note(self.k, agrees.then_some(()).ok_or(place));
     }
 

@@ -15,7 +15,7 @@ pub enum Call {
 impl AnyTag for Call {
     const RECORDS: usize = 4096;
 
-    fn of(word: u64) -> Option<Call> {
+    fn tag_of(word: u64) -> Option<Call> {
         match word {
             1 => Some(Call::State),
             2 => Some(Call::Apply),
@@ -26,7 +26,7 @@ impl AnyTag for Call {
     }
 
     // The first word counts the others.
-    fn length(_word: u64, words: Plain) -> usize {
+    fn length_of(_word: u64, words: Plain) -> usize {
         counted(words, 0)
     }
 }

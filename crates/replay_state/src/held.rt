@@ -106,7 +106,7 @@ impl Held {
             modes: self.modes.as_slice(),
         };
         let mut work = [7.0; PLACES];
-        query.agrees(state, WIDTHS, &mut work, words)
+        query.agrees_in(state, WIDTHS, &mut work, words)
     }
 
     // Operators, and entries of the covariance.

@@ -7,10 +7,10 @@ ghost use Rattle.stored.specs.declared.records.Taped.TheVariants.{Exact, Angled}
 use crate::words::{Plain, Words, size};
 use std::marker::{Model, PhantomData};
 
-// A list of tapes or blocks is read to so many records.
+// The programs read a list of tapes or blocks to so many records.
 pub const MAX_RECORDS: usize = 1024;
 
-// A record has fewer words after the one that counts them.
+// A record of theirs has fewer words after the one that counts them.
 const MANY: usize = 65000;
 
 // The tags of a list that ends at the first word that is none.
@@ -27,11 +27,11 @@ pub trait AnyTag: Sized + Drop {
     // The list is read to so many records.
     const RECORDS: usize;
 
-    // Nothing where the word, which is not 0, is no tag. Not `TryFrom`: nobody would read its error.
-    fn of(word: u64) -> Option<Self>;
+    // Nothing where the word, which is not 0, is no tag.
+    fn tag_of(word: u64) -> Option<Self>;
 
     // How many words follow this one, a tag or none, where they begin with these.
-    fn length(word: u64, words: Plain) -> usize;
+    fn length_of(word: u64, words: Plain) -> usize;
 }
 
 // How many words a record has that counts them in the word after its first `before`; no words where it counts too many.
@@ -63,9 +63,7 @@ pub enum Taped {
     Angled,
 }
 
-impl AnyTag for Taped {
-    const RECORDS: usize = MAX_RECORDS;
-
+impl Tag for Taped {
     fn of(word: u64) -> Option<Taped>
         ensures { result ≡ cond (eqb word 1) (Some Exact) (cond (eqb word 2) (Some Angled) None) }
     {
@@ -76,18 +74,6 @@ impl AnyTag for Taped {
         }
     }
 
-    fn length(_word: u64, words: Plain) -> usize {
-        counted(words, 1)
-    }
-}
-
-impl Tag for Taped {
-    fn of(word: u64) -> Option<Taped>
-        ensures { result ≡ cond (eqb word 1) (Some Exact) (cond (eqb word 2) (Some Angled) None) }
-    {
-        <Taped as AnyTag>::of(word)
-    }
-
     // However many are counted.
     fn length(&self, mut words: Plain) -> Option<usize>
         ensures { IfSome result (λ many. many ≡ le64 (drop 8 words.entry.bytes.now) 0 + 2) }
@@ -95,6 +81,18 @@ impl Tag for Taped {
         words.word()?;
         let last = words.word()? as usize;
         last.checked_add(2)
+    }
+}
+
+impl AnyTag for Taped {
+    const RECORDS: usize = MAX_RECORDS;
+
+    fn tag_of(word: u64) -> Option<Taped> {
+        Taped::of(word)
+    }
+
+    fn length_of(_word: u64, words: Plain) -> usize {
+        counted(words, 1)
     }
 }
 
@@ -196,8 +194,8 @@ impl<'a, T: AnyTag> Iterator for AnyRecords<'a, T> {
         if word == 0 {
             return None;
         }
-        let (record, rest) = words.split(T::length(word, words))?;
+        let (record, rest) = words.split(T::length_of(word, words))?;
         self.rest = rest;
-        Some((T::of(word), record))
+        Some((T::tag_of(word), record))
     }
 }

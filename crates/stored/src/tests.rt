@@ -1,8 +1,8 @@
-// What no clause says: how far a list is read whose tags end it, and that a record's words are counted however many they are.
+// How far a list is read whose tags end it, which no clause says, and what its tags are and count.
 use super::records::{Records, Tag, Taped};
 use super::words::Plain;
 
-// A record of a word of tape and one word more, a record without a tape, which has no words, and the tag 0.
+// A record with a tape of one word, a record without a tape, and the tag 0.
 const LIST: &[u8] = b"\x01\0\0\0\0\0\0\0\x05\0\0\0\0\0\0\0\x01\0\0\0\0\0\0\0tape.\0\0\0\
     \x02\0\0\0\0\0\0\0\0\0\0\0\0\0\0\0\0\0\0\0\0\0\0\0\
     \0\0\0\0\0\0\0\0";

@@ -1,6 +1,8 @@
 // Queries put to a state. A query is a tag, the number of words that follow, what is asked, the length of work and how many of its places are zero
 // after the call, the answer: number, place, value; then the row of a product or a marginal, or a sample's output. Before a call work and output are 7
 // everywhere.
+ghost use Rattle.std.specs.Prelude.{◌≡◌, ◌<◌, max, Some, MatchOption};
+
 use laws::MAX_QUBITS;
 use queries::Answered;
 use state::Told;
@@ -21,7 +23,7 @@ pub struct State<'a> {
     pub modes: &'a [u16],
 }
 
-// In so many words each list of a query is stored, which then has no more entries; where none are named, in as many as it has.
+// In so many words each list of a query is stored; where none are named, in as many as it has entries.
 #[derive(Clone, Copy, Default)]
 pub struct Widths {
     pub qubits: usize,
@@ -53,8 +55,24 @@ impl Query {
         Some(query)
     }
 
-    // Whether the answer and what is left in work agree; nothing where the query cannot be read. Every place of the lent work is 7.0.
-    pub fn agrees<W: Words>(
+    // Whether the answer and what is left in work agree; nothing where the query cannot be read. A list with more entries than its width has as many words.
+    pub fn agrees<W: Words>(self, state: State, widths: Widths, words: &mut W) -> Option<bool> {
+        let mut work = [7.0; stored::WORK];
+        self.asked::<AtLeast, W>(state, widths, &mut work, words)
+    }
+
+    // The same in lent work, of which every place is 7.0; nothing where a list has more entries than its width.
+    pub fn agrees_in<W: Words>(
+        self,
+        state: State,
+        widths: Widths,
+        lent: &mut [f64],
+        words: &mut W,
+    ) -> Option<bool> {
+        self.asked::<Within, W>(state, widths, lent, words)
+    }
+
+    fn asked<L: Lists, W: Words>(
         self,
         state: State,
         widths: Widths,
@@ -62,10 +80,10 @@ impl Query {
         words: &mut W,
     ) -> Option<bool> {
         match self {
-            Query::Product => product(state, widths, lent, words),
-            Query::Marginal => marginal(state, widths, lent, words),
+            Query::Product => product::<L, W>(state, widths, lent, words),
+            Query::Marginal => marginal::<L, W>(state, widths, lent, words),
             Query::Probability => probability(state, lent, words),
-            Query::Sample => sample(state, widths, lent, words),
+            Query::Sample => sample::<L, W>(state, widths, lent, words),
         }
     }
 }
@@ -94,18 +112,45 @@ impl Answer for Answered {
     }
 }
 
-// In how many words so many entries are stored; nothing where these are too few.
-fn stored_in(count: usize, width: usize) -> Option<usize> {
-    if width == 0 {
-        return Some(count);
+// How lists are stored.
+trait Lists {
+    // In how many words so many entries are stored; nothing where they cannot be.
+    fn stored_in(count: usize, width: usize) -> Option<usize>;
+}
+
+// In the words of the width, where one is named, and no more.
+struct Within;
+
+impl Lists for Within {
+    fn stored_in(count: usize, width: usize) -> Option<usize>
+        ensures { MatchOption result ((0 < width) × (width < count)) (λ words. words ≡ max count width) }
+    {
+        if width == 0 {
+            return Some(count);
+        }
+        (count <= width).then_some(width)
     }
-    (count <= width).then_some(width)
+}
+
+// In at least as many.
+struct AtLeast;
+
+impl Lists for AtLeast {
+    fn stored_in(count: usize, width: usize) -> Option<usize>
+        ensures { result ≡ Some (max count width) }
+    {
+        Some(count.max(width))
+    }
 }
 
 // So many entries. A longer array is filled and its first part taken, since the words behind the entries are read too.
-fn listed<T: Word, W: Words>(count: usize, width: usize, words: &mut W) -> Option<[T; LISTED]> {
+fn listed<T: Word, L: Lists, W: Words>(
+    count: usize,
+    width: usize,
+    words: &mut W,
+) -> Option<[T; LISTED]> {
     let mut list = [T::of(0)?; LISTED];
-    for i in 0..stored_in(count, width)? {
+    for i in 0..L::stored_in(count, width)? {
         *list.get_mut(i)? = T::of(words.word()?)?;
     }
     Some(list)
@@ -125,14 +170,14 @@ fn worked<A: Answer, W: Words, F: FnOnce(&mut [f64]) -> A>(
     Some(answer.is_said(words)? && is_cleared(lent, zeros, 7.0))
 }
 
-fn product<W: Words>(
+fn product<L: Lists, W: Words>(
     state: State,
     widths: Widths,
     lent: &mut [f64],
     words: &mut W,
 ) -> Option<bool> {
     let count = size(words)?;
-    let list = listed(count, widths.qubits, words)?;
+    let list = listed::<_, L, W>(count, widths.qubits, words)?;
     let qubits = list.get(..count)?;
     worked(lent, words, |work| {
         Answered::from(queries::expectation_z_product(
@@ -145,7 +190,7 @@ fn product<W: Words>(
     })
 }
 
-fn marginal<W: Words>(
+fn marginal<L: Lists, W: Words>(
     state: State,
     widths: Widths,
     lent: &mut [f64],
@@ -153,8 +198,8 @@ fn marginal<W: Words>(
 ) -> Option<bool> {
     let count = size(words)?;
     let bit_count = size(words)?;
-    let list = listed(count, widths.qubits, words)?;
-    let bit_list = listed(bit_count, widths.qubits, words)?;
+    let list = listed::<_, L, W>(count, widths.qubits, words)?;
+    let bit_list = listed::<_, L, W>(bit_count, widths.qubits, words)?;
     let qubits = list.get(..count)?;
     let bits = bit_list.get(..bit_count)?;
     worked(lent, words, |work| {
@@ -178,13 +223,18 @@ fn probability<W: Words>(state: State, lent: &mut [f64], words: &mut W) -> Optio
 }
 
 // The output's words stand after the answer.
-fn sample<W: Words>(state: State, widths: Widths, lent: &mut [f64], words: &mut W) -> Option<bool> {
+fn sample<L: Lists, W: Words>(
+    state: State,
+    widths: Widths,
+    lent: &mut [f64],
+    words: &mut W,
+) -> Option<bool> {
     let shots = size(words)?;
     let draw_count = size(words)?;
     let length = size(words)?;
-    let draw_list = listed(draw_count, widths.draws, words)?;
+    let draw_list = listed::<_, L, W>(draw_count, widths.draws, words)?;
     let draws = draw_list.get(..draw_count)?;
-    let out_words = stored_in(length, widths.output)?;
+    let out_words = L::stored_in(length, widths.output)?;
     let mut out_space = [7u64; OUT];
     let out = out_space.get_mut(..length)?;
     let same = worked(lent, words, |work| {

@@ -5,3 +5,5 @@
 pub mod asked; // asked.rt: queries put to a state
 pub mod counts; // counts.rt: how many comparisons agree, and which is the first that does not
 pub mod packed; // packed.rt: the words of a record, packed
+#[cfg(test)]
+mod tests;
