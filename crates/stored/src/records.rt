@@ -47,7 +47,7 @@ pub fn counted(mut words: Plain, before: usize) -> usize
 }
 
 // What a tag stands for where the tags count up from the first, in the order of these; nothing where it is none of them.
-// Each table's `of` takes the field of the entry that it needs.
+// Who asks a table takes the field of the entry that it needs.
 pub fn numbered<T: Copy>(these: &[T], first: u64, tag: u64) -> Option<T>
     ensures { MatchOption result (first ≤ tag → length these.now ≤ tag - first) (λ x. (first ≤ tag)
         × (x ≡ slice_index_or these.now (tag - first) x)) }

@@ -1,7 +1,7 @@
 // Queries put to a state. A query is a tag, the number of words that follow, what is asked, the length of work and how many of its places are zero
 // after the call, the answer: number, place, value; then the row of a product or a marginal, or a sample's output. Before a call work and output are 7
 // everywhere.
-ghost use Rattle.std.specs.Prelude.{◌≡◌, ◌<◌, max, Some, MatchOption};
+ghost use Rattle.std.specs.Prelude.{◌≡◌, ◌<◌, ◌≤◌, max, Some, MatchOption};
 
 use laws::MAX_QUBITS;
 use queries::Answered;
@@ -61,7 +61,7 @@ impl Query {
         self.asked::<AtLeast, W>(state, widths, &mut work, words)
     }
 
-    // The same in lent work, of which every place is 7.0; nothing where a list has more entries than its width.
+    // The same in lent work, of which every place is 7.0; nothing where a list has more entries than the width that is named for it.
     pub fn agrees_in<W: Words>(
         self,
         state: State,
@@ -123,7 +123,7 @@ struct Within;
 
 impl Lists for Within {
     fn stored_in(count: usize, width: usize) -> Option<usize>
-        ensures { MatchOption result ((0 < width) × (width < count)) (λ words. words ≡ max count width) }
+        ensures { MatchOption result ((0 < width) × (width < count)) (λ words. (0 < width → count ≤ width) × (words ≡ max count width)) }
     {
         if width == 0 {
             return Some(count);
