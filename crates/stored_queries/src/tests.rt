@@ -18,7 +18,7 @@ const WORDS: Widths = Widths {
 // Of a product of qubit 0 twice: the list, work's length and zeros, number, place, 1.0 as one byte, no row.
 const TWICE: [u8; 9] = [2, 0, 0, 0, 0, 0, 0, 0xf0, 0];
 
-// Of a sample without shots, in four places of work, which are zero then: shots, draws and words of the output; work; number, place, 0.0; the output, as it was.
+// Of a sample without shots, in four places of work, which are zero then: shots, draws, words of output; work; number, place, 0.0; the output, as it was.
 const NO_SHOTS: [u8; 11] = [0, 0, 3, 4, 4, 0, 0, 0, 7, 7, 7];
 
 #[test]
